@@ -11,6 +11,8 @@ mod step;
 
 pub use faults::PriceFault;
 pub use faults::PriceFaultDebug;
+pub use faults::PriceFaultDisplay;
+pub use faults::PriceFaultError;
 pub use faults::PriceFaultPartialEq;
 pub use fraction::Fraction;
 pub use grid::Grid;

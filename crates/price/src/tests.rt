@@ -14,36 +14,63 @@ fn the_higher_of_two_equally_near() -> Result<(), Fail> {
     check_eq(nearest(&fives, Fraction::new(1024, 10)?), Some((100, -24)))?;
     check_eq(nearest(&fives, Fraction::new(1026, 10)?), Some((105, 24)))?;
     let band = soybean(680_000_000, 1_320_000_000)?;
-    check_eq(nearest(&band, Fraction::new(1_005_000, 1)?), Some((1_010_000, 5_000)))?;
-    check_eq(nearest(&band, Fraction::new(2_009_999, 2)?), Some((1_000_000, -9_999)))
+    check_eq(
+        nearest(&band, Fraction::new(1_005_000, 1)?),
+        Some((1_010_000, 5_000)),
+    )?;
+    check_eq(
+        nearest(&band, Fraction::new(2_009_999, 2)?),
+        Some((1_000_000, -9_999)),
+    )
 }
 
 #[test]
 fn both_ends_of_the_range() -> Result<(), Fail> {
     let sevens = StepGrid::new(7)?;
     check_eq(nearest(&sevens, Fraction::new(0, 1)?), Some((7, 7)))?;
-    check_eq(nearest(&sevens, Fraction::new(0, 10_000)?), Some((7, 70_000)))?;
+    check_eq(
+        nearest(&sevens, Fraction::new(0, 10_000)?),
+        Some((7, 70_000)),
+    )?;
     check_eq(sevens.at_or_below(Fraction::new(69_999, 10_000)?), None)?;
     let widest = StepGrid::new(100_000)?;
     let most = Fraction::new(1_000_000_000_000_000, 1)?;
-    check_eq(nearest(&widest, most), Some((500_000_000_000_000, -500_000_000_000_000)))?;
+    check_eq(
+        nearest(&widest, most),
+        Some((500_000_000_000_000, -500_000_000_000_000)),
+    )?;
     // 99,999 goes 5,000,050,000 times into the last price
     let uneven = StepGrid::new(99_999)?;
-    check_eq(nearest(&uneven, most), Some((499_999_999_950_000, -500_000_000_050_000)))?;
-    check_eq(uneven.at_or_above(Fraction::new(499_999_999_950_001, 1)?), None)?;
+    check_eq(
+        nearest(&uneven, most),
+        Some((499_999_999_950_000, -500_000_000_050_000)),
+    )?;
+    check_eq(
+        uneven.at_or_above(Fraction::new(499_999_999_950_001, 1)?),
+        None,
+    )?;
     check(!uneven.has(500_000_000_049_999) && uneven.has(499_999_999_950_000) && !uneven.has(0))
 }
 
 #[test]
 fn the_largest_numerator_and_divisor() -> Result<(), Fail> {
     let most = Fraction::new(1_000_000_000_000_000, 10_000)?;
-    check_eq(nearest(&StepGrid::new(100_000)?, most), Some((100_000_000_000, 0)))?;
-    check_eq(nearest(&StepGrid::new(3)?, most), Some((99_999_999_999, -10_000)))?;
+    check_eq(
+        nearest(&StepGrid::new(100_000)?, most),
+        Some((100_000_000_000, 0)),
+    )?;
+    check_eq(
+        nearest(&StepGrid::new(3)?, most),
+        Some((99_999_999_999, -10_000)),
+    )?;
     let first = SinglePrice::new(1)?;
     check_eq(nearest(&first, most), Some((1, -999_999_999_990_000)))?;
     let last = SinglePrice::new(500_000_000_000_000)?;
     let none = Fraction::new(0, 10_000)?;
-    check_eq(nearest(&last, none), Some((500_000_000_000_000, 5_000_000_000_000_000_000)))?;
+    check_eq(
+        nearest(&last, none),
+        Some((500_000_000_000_000, 5_000_000_000_000_000_000)),
+    )?;
     check_eq(last.at_or_below(none), None)?;
     check_eq(last.at_or_above(none), Some(500_000_000_000_000))?;
     check(last.has(500_000_000_000_000) && !last.has(499_999_999_999_999))
@@ -72,7 +99,10 @@ fn a_limit_to_the_thousandth() -> Result<(), Fail> {
     let tighter = soybean(680_000_001, 1_319_999_999)?;
     check_eq(nearest(&tighter, low), Some((690_000, 689_999)))?;
     check_eq(nearest(&tighter, high), Some((1_310_000, -3_690_000)))?;
-    check_eq(nearest(&soybean(13_600_000, 26_400_000)?, low), Some((20_000, 19_999)))
+    check_eq(
+        nearest(&soybean(13_600_000, 26_400_000)?, low),
+        Some((20_000, 19_999)),
+    )
 }
 
 #[test]
@@ -101,5 +131,8 @@ fn refusals() -> Result<(), Fail> {
     check_eq(SinglePrice::new(500_000_000_000_001).err(), grid)?;
     check_eq(soybean(220_000_000_000_001, 0).err(), grid)?;
     check_eq(soybean(0, 220_000_000_000_001).err(), grid)?;
-    check_eq(soybean(220_000_000_000_000, 220_000_000_000_000).err(), None)
+    check_eq(
+        soybean(220_000_000_000_000, 220_000_000_000_000).err(),
+        None,
+    )
 }

@@ -1,0 +1,2 @@
+pub mod Soybeans
+pub mod Sentences
