@@ -1,2 +1,3 @@
 pub mod Soybeans
+pub mod Quotes
 pub mod Sentences

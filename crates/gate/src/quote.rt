@@ -1,10 +1,9 @@
 //! What a broker asked for, and the answer.
 ghost use mathlib.Core.Path.{_≡_};
-ghost use Rattle.std.specs.Results.{Cases};
 ghost use Rattle.std.specs.declared.option.Option.the-variants.{Some};
+ghost use Rattle.gate.specs.Quotes.{quoted};
 ghost use Rattle.gate.specs.Sentences.{pips, sentence};
-ghost use Rattle.price.specs.Closest.{closest};
-ghost use Rattle.price.specs.Faults.{number};
+ghost use Rattle.price.specs.Makers.{told};
 use price::Fraction;
 use price::Grid;
 use price::PriceFault;
@@ -42,7 +41,7 @@ pub struct Quote {
 impl Quote {
     /// The nearest price of `grid` to `n` over `d`.
     pub fn new<G: Grid>(grid: &G, n: u64, d: u64) -> Result<Quote, PriceFault>
-        ensures { λ r. ⌜ Cases r (λ q. (q .numerator ≡ n) × (q .divisor ≡ d) × (q .answer ≡ closest (G·Grid .holds (now (grid .entry))) n d)) (λ fault. number fault ≡ 11) ⌝ }
+        ensures { λ r. ⌜ told (λ q. (q .numerator, q .divisor, q .answer)) r ≡ quoted (G·Grid .holds (now (grid .entry))) n d ⌝ }
     {
         let answer = nearest(grid, Fraction::new(n, d)?);
         Ok(Quote {
