@@ -1,0 +1,4 @@
+pub mod Bounds
+pub mod Firsts
+pub mod Mid
+pub mod Soundness

@@ -1,0 +1,4 @@
+pub mod Reference
+pub mod Exchange
+pub mod Rows
+pub mod Books

@@ -1,0 +1,51 @@
+//! The flexible book.
+ghost use mathlib.Core.Path.{_≡_};
+ghost use Rattle.std.specs.Vec.{made};
+ghost use Rattle.books.specs.Books.{flexible, row-in};
+ghost use Rattle.books.specs.Exchange.{flexible-rule};
+ghost use Rattle.books.specs.Rows.{Small};
+use super::measure::row_prices;
+use super::rows::Row;
+use super::tables::flexible_row;
+use price::StepGrid;
+use price::StepGridGrid;
+use rulebook::Band;
+use rulebook::Figures;
+use rulebook::HoursClass;
+use rulebook::RuleFault;
+use rulebook::Rulebook;
+
+#[derive(Clone, Copy)]
+pub struct Flexible;
+
+/// The row of a product.
+fn row_of(product: u64) -> Result<Row, RuleFault>
+    ensures value { λ r. ⌜ r ≡ row-in 4 flexible-rule product ⌝ }
+    ensures small { λ r. ⌜ made r Small ⌝ }
+{
+    if 1 <= product && product <= 4 {
+        Ok(flexible_row(product as usize - 1))
+    } else {
+        Err(RuleFault::ProductAbsent)
+    }
+}
+
+pub impl Rulebook for Flexible as FlexibleRulebook {
+    type Grid = StepGrid;
+
+    const HALT_BINDS: bool = true;
+
+    ghost meaning = { λ _. flexible };
+
+    fn is_bound_by_halts(&self) -> bool {
+        Self::HALT_BINDS
+    }
+
+    fn hours(&self, product: u64) -> Result<HoursClass, RuleFault> {
+        Ok(row_of(product)?.hours)
+    }
+
+    fn band(&self, product: u64, figures: &Figures) -> Result<Band<StepGrid>, RuleFault> {
+        row_prices(row_of(product)?, figures)
+    }
+}

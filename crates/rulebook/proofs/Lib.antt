@@ -1,0 +1,3 @@
+pub mod Sheet
+pub mod Lackings
+pub mod Opening

@@ -1,0 +1,7 @@
+pub mod Letters
+pub mod Limits
+pub mod Sheets
+pub mod Hours
+pub mod Faults
+pub mod Meaning
+pub mod Laws
