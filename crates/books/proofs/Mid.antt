@@ -8,17 +8,11 @@ use native.Mathlib.Omega.{arith}
 use Rattle.std.proofs.shelf.Tests.{cases-eq}
 use Rattle.std.specs.declared.option.Option.{Option}
 use Rattle.std.specs.declared.option.Option.the-variants.{Some, None}
-use Rattle.price.specs.Sets.{multiples, Prices, last-price}
+use Rattle.price.specs.Sets.{multiples, last-price}
 use Rattle.price.specs.Closest.{closest}
 use Rattle.price.specs.Questions.{Nearest}
 use Rattle.price.proofs.Search.{closest-is-nearest}
-use Rattle.price.proofs.Told.{multiple-parts, multiple-from}
-
-pub multiples-are-prices : (step : ℕ) → Prices (multiples step)
-multiples-are-prices step = record {
-  positive = λ price in-set. multiple-parts step price in-set .0;
-  bounded = λ price in-set. multiple-parts step price in-set .1;
-}
+use Rattle.price.proofs.Told.{multiple-parts, multiple-from, multiples-are-prices}
 
 -- what the search finds is the nearest
 pub found-nearest : (step n d : ℕ) (found : Option (ℕ × ℤ)) → found ≡ closest (multiples step) n d → Nearest (multiples step) n d found

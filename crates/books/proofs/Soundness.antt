@@ -16,7 +16,7 @@ use Rattle.price.specs.Sets.{multiples, single, Prices, last-price, last-end}
 use Rattle.price.specs.Closest.{closest}
 use Rattle.price.specs.Questions.{Nearest}
 use Rattle.price.specs.Makers.{from-to}
-use Rattle.price.proofs.Told.{multiple-parts}
+use Rattle.price.proofs.Told.{multiple-parts, multiples-are-prices}
 use Rattle.rulebook.specs.declared.Letter.{Letter}
 use Rattle.rulebook.specs.declared.Letter.the-variants.{B, O, L, U, H, K, M}
 use Rattle.rulebook.specs.declared.RuleFault.{RuleFault}
@@ -34,7 +34,7 @@ use Rattle.books.specs.Rows.{centre-letter, needs, centre, swing, width, ends,
 use Rattle.books.specs.Exchange.{Rule, single-issue-rule, flexible-rule}
 use Rattle.books.specs.Books.{written, row-in, product-of, product-in, single-issue, flexible, at-settlement, compression}
 use Rattle.books.proofs.Bounds.{single-issue-small, flexible-small}
-use Rattle.books.proofs.Mid.{multiples-are-prices, found-nearest, nearest-small}
+use Rattle.books.proofs.Mid.{found-nearest, nearest-small}
 
 -- a figure from 1 to a most, if it is posted
 Fine : ℕ → Option ℕ → Type 0
@@ -211,33 +211,47 @@ module _ (figures : Sheet) (within : Within-limits figures) where
         high-most = most;
       }
 
-  answered-good : (row : Row) (prices : Prices-in-band) (missing : Option Letter) → Small row → lacking (needs row) figures ≡ missing
-      → unless-lacking missing (row-product row .prices figures) ≡ Ok prices → Good prices
-  answered-good row prices None small none answer =
-      let same : row-product row .prices figures ≡ prices = cc in subst Good same (row-good row small none)
-  answered-good row prices (Some letter) small lacks answer = let z : _≡_ {A = ℕ} 0 1 = cc in absurd (omega arith)
+  -- an answered product has a row that lacks nothing, and its prices are that row's
+  Answered : Result Row RuleFault → Prices-in-band → Type 0
+  Answered entry prices =
+      (row : Row) × (entry ≡ Ok row) × (lacking (needs row) figures ≡ None) × (row-product row .prices figures ≡ prices)
 
-  product-good : (entry : Result Row RuleFault) (prices : Prices-in-band) → ((row : Row) → entry ≡ Ok row → Small row)
-      → prices-of-product (product-of entry) figures ≡ Ok prices → Good prices
-  product-good (Ok row) prices small answer =
-      answered-good row prices (lacking (needs row) figures) (small row refl) refl answer
-  product-good (Err fault) prices small answer = let z : _≡_ {A = ℕ} 0 1 = cc in absurd (omega arith)
+  answered-row : (row : Row) (prices : Prices-in-band) (missing : Option Letter) → lacking (needs row) figures ≡ missing
+      → unless-lacking missing (row-product row .prices figures) ≡ Ok prices → Answered (Ok row) prices
+  unfolding Answered
+  answered-row row prices None none answer =
+      let same : row-product row .prices figures ≡ prices = cc in (row, refl, none, same)
+  answered-row row prices (Some letter) lacks answer = let z : _≡_ {A = ℕ} 0 1 = cc in absurd (omega arith)
+
+  answered : (entry : Result Row RuleFault) (prices : Prices-in-band)
+      → prices-of-product (product-of entry) figures ≡ Ok prices → Answered entry prices
+  answered (Ok row) prices answer = answered-row row prices (lacking (needs row) figures) refl answer
+  answered (Err fault) prices answer = let z : _≡_ {A = ℕ} 0 1 = cc in absurd (omega arith)
 
   module _ (last : ℕ) (rule : ℕ → Rule) (small : (index : ℕ) → index < last → Small (written (rule (index + 1)))) where
-    entry-small : (number : ℕ) (row : Row) (known : Bool) → from-to 1 last number ≡ known
-        → cond known (Ok (written (rule number))) (Err ProductAbsent) ≡ Ok row → Small row
-    entry-small number row true test found =
+    listed : (number : ℕ) (row : Row) (known : Bool) → from-to 1 last number ≡ known
+        → cond known (Ok (written (rule number))) (Err ProductAbsent) ≡ Ok row → (written (rule number) ≡ row) × Small (written (rule number))
+    listed number row true test found =
         let (one, most) = and-parts _ _ test in
         let least = leb-true 1 number one in
         let bounded = leb-true number last most in
         let same : number - 1 + 1 ≡ number = omega arith in
         let is : written (rule number) ≡ row = cc in
-        subst Small is (subst (λ (k : ℕ). Small (written (rule k))) same (small (number - 1) (omega arith)))
-    entry-small number row false test found = let z : _≡_ {A = ℕ} 0 1 = cc in absurd (omega arith)
+        (is, subst (λ (k : ℕ). Small (written (rule k))) same (small (number - 1) (omega arith)))
+    listed number row false test found = let z : _≡_ {A = ℕ} 0 1 = cc in absurd (omega arith)
 
-    pub table-good : (number : ℕ) (prices : Prices-in-band) → prices-of-product (product-in last rule number) figures ≡ Ok prices → Good prices
-    table-good number prices answer =
-        product-good (row-in last rule number) prices (λ row found. entry-small number row (from-to 1 last number) refl found) answer
+    -- what a book answers of a product is what the product's row gives
+    pub row-answers : (number : ℕ) (prices : Prices-in-band) → prices-of-product (product-in last rule number) figures ≡ Ok prices
+        → (row-product (written (rule number)) .prices figures ≡ prices) × Small (written (rule number)) × Good prices
+    unfolding Answered
+    row-answers number prices answer =
+        let (row, entry, none, gives) = answered (row-in last rule number) prices answer in
+        let (same, fits) = listed number row (from-to 1 last number) refl entry in
+        let is : row-product (written (rule number)) .prices figures ≡ prices =
+            ap (λ (r : Row). row-product r .prices figures) same ∙ gives in
+        let lacks-none : lacking (needs (written (rule number))) figures ≡ None =
+            ap (λ (r : Row). lacking (needs r) figures) same ∙ none in
+        (is, fits, subst Good is (row-good (written (rule number)) fits lacks-none))
 
 -- a book whose answers are good is sound
 pub sound : (rules : Meaning)
@@ -282,8 +296,8 @@ compression-sound = sound compression (λ number figures prices within answer. c
 
 pub single-issue-sound : Sound single-issue
 single-issue-sound = sound single-issue
-    (λ number figures prices within answer. table-good figures within 22 single-issue-rule single-issue-small number prices answer)
+    (λ number figures prices within answer. row-answers figures within 22 single-issue-rule single-issue-small number prices answer .2)
 
 pub flexible-sound : Sound flexible
 flexible-sound = sound flexible
-    (λ number figures prices within answer. table-good figures within 4 flexible-rule flexible-small number prices answer)
+    (λ number figures prices within answer. row-answers figures within 4 flexible-rule flexible-small number prices answer .2)

@@ -13,13 +13,15 @@ use Rattle.std.specs.declared.option.Option.the-variants.{Some, None}
 use Rattle.std.specs.shelf.Lists.{All}
 use Rattle.std.proofs.shelf.Bits.{le-div}
 use Rattle.std.proofs.shelf.Tests.{and-parts, or-cases, not-true, both-ways, leb-true, ltb-true, eqb-true, cases-lt, cases-order}
-use Rattle.price.specs.Sets.{PriceSet, _among_, multiples, between}
+use Rattle.price.specs.Sets.{PriceSet, _among_, last-price, multiples, between}
+use Rattle.price.specs.Closest.{closest}
 use Rattle.price.specs.Questions.{distance, signed-distance, Worse, Nearest}
 use Rattle.price.specs.Rounding.{Last-multiple}
 use Rattle.price.specs.Worked.{Case, Right, cases, Neighbours-decide, Worked-cases-are-right}
 use Rattle.price.proofs.Quotients.{in-steps, last-multiple}
 use Rattle.price.proofs.Nearness.{up}
-use Rattle.price.proofs.Told.{multiple-parts, multiple-from, between-parts, between-from}
+use Rattle.price.proofs.Search.{nearest-is-closest}
+use Rattle.price.proofs.Told.{multiples-are-prices, multiple-parts, multiple-from, between-parts, between-from}
 
 -- two multiples lie at least a unit apart
 unit-apart : (unit lower higher : ℕ) → lower % unit ≡ 0 → higher % unit ≡ 0 → lower < higher → lower + unit ≤ higher
@@ -102,25 +104,24 @@ neighbours-decide unit low high n d one whole =
 
 -- Whether a case can be decided so is a test that is computed.
 
-same-signed : ℤ → ℤ → Bool
+abbrev pub same-signed : ℤ → ℤ → Bool
 same-signed (pos a) (pos b) = eqb a b
 same-signed (pos a) (negsuc b) = false
 same-signed (negsuc a) (pos b) = false
 same-signed (negsuc a) (negsuc b) = eqb a b
 
 same-signed-true : (x y : ℤ) → same-signed x y ≡ true → x ≡ y
-unfolding same-signed
 same-signed-true (pos a) (pos b) same = ap pos (eqb-true a b same)
 same-signed-true (pos a) (negsuc b) same = absurd (both-ways false refl same)
 same-signed-true (negsuc a) (pos b) same = absurd (both-ways false refl same)
 same-signed-true (negsuc a) (negsuc b) same = ap negsuc (eqb-true a b same)
 
 -- the last multiple of a unit up to a high end
-last-of : ℕ → ℕ → ℕ
+abbrev pub last-of : ℕ → ℕ → ℕ
 last-of unit high = high / 1000 - high / 1000 % unit
 
 module _ (unit low high n d : ℕ) where
-  decides : Option (ℕ × ℤ) → Bool
+  abbrev pub decides : Option (ℕ × ℤ) → Bool
   decides None = ltb (1000 * last-of unit high) low || eqb (last-of unit high) 0
   decides (Some (price, signed)) =
       between low high (multiples unit) price
@@ -156,7 +157,6 @@ module _ (unit low high n d : ℕ) where
 
   decided : (answer : Option (ℕ × ℤ)) → 1 ≤ unit → 1 ≤ d → decides answer ≡ true
       → Nearest (between low high (multiples unit)) n d answer
-  unfolding decides last-of
   decided None one whole test =
       neighbours-decide unit low high n d one whole .empty _ (last-multiple unit (high / 1000) one)
       (elim (or-cases _ _ test) [ inl below ↦ inl (ltb-true _ _ below) | inr none ↦ inr (eqb-true _ _ none) ])
@@ -185,5 +185,31 @@ all-right (c ∷ others) test =
     (decided (c .unit) (c .low) (c .high) (c .n) (c .d) (c .answer) (leb-true _ _ one) (leb-true _ _ whole) test′, all-right others later)
 
 pub worked-cases : Worked-cases-are-right
-unfolding all-pass passes decides same-signed last-of
+unfolding all-pass passes
 worked-cases = record { decided = neighbours-decide; right = all-right cases refl }
+
+-- The same without ends: every multiple of a unit lies between 0 and 1,000 times the last price.
+
+abbrev pub whole-range : ℕ
+whole-range = 1000 * last-price
+
+widened : (unit n d : ℕ) (answer : Option (ℕ × ℤ)) → Nearest (between 0 whole-range (multiples unit)) n d answer → Nearest (multiples unit) n d answer
+widened unit n d None near = λ price in-set.
+    near price (between-from 0 whole-range (multiples unit) price in-set (omega arith) (omega (arith, multiple-parts unit price in-set .1)))
+widened unit n d (Some (nearest, signed)) near = (
+  between-parts 0 whole-range (multiples unit) nearest (near .0) .0,
+  near .1,
+  λ price in-set other.
+      near .2 price (between-from 0 whole-range (multiples unit) price in-set (omega arith) (omega (arith, multiple-parts unit price in-set .1))) other,
+)
+
+-- the nearest multiple of a unit, where the test of its neighbours is computed
+pub nearest-multiple-by-neighbours : (unit n d price : ℕ) (signed : ℤ)
+    → (leb 1 unit && (leb 1 d && decides unit 0 whole-range n d (Some (price, signed)))) ≡ true
+    → closest (multiples unit) n d ≡ Some (price, signed)
+nearest-multiple-by-neighbours unit n d price signed test =
+    let (one, others) = and-parts _ _ test in
+    let (whole, decided-by) = and-parts _ _ others in
+    sym (nearest-is-closest (multiples unit) n d (Some (price, signed)) (multiples-are-prices unit)
+      (widened unit n d (Some (price, signed))
+        (decided unit 0 whole-range n d (Some (price, signed)) (leb-true 1 unit one) (leb-true 1 d whole) decided-by)))

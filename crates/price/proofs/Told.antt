@@ -6,7 +6,7 @@ use native.Mathlib.Omega.{arith}
 use lib.Dec.{eqb, leb}
 use Rattle.std.proofs.shelf.Bits.{mul-le}
 use Rattle.std.proofs.shelf.Tests.{and-parts, and-from, leb-true, le-leb, eqb-true, eq-eqb}
-use Rattle.price.specs.Sets.{PriceSet, _among_, last-price, multiples, single, between}
+use Rattle.price.specs.Sets.{PriceSet, _among_, Prices, last-price, multiples, single, between}
 use Rattle.price.specs.Laws.{Sets-hold-what-they-say}
 use Rattle.price.proofs.Quotients.{in-steps}
 
@@ -20,6 +20,12 @@ multiple-parts step price in-set =
 pub multiple-from : (step price : ℕ) → 1 ≤ price → price ≤ last-price → price % step ≡ 0 → price among multiples step
 multiple-from step price positive bounded even =
     and-from _ _ (le-leb _ _ positive) (and-from _ _ (le-leb _ _ bounded) (eq-eqb _ _ even))
+
+pub multiples-are-prices : (step : ℕ) → Prices (multiples step)
+multiples-are-prices step = record {
+  positive = λ price in-set. multiple-parts step price in-set .0;
+  bounded = λ price in-set. multiple-parts step price in-set .1
+}
 
 -- a price between two ends, taken apart and put together
 pub between-parts : (low high : ℕ) (set : PriceSet) (price : ℕ) → price among between low high set

@@ -87,7 +87,7 @@ rank-at : (k : ℕ) → k < 13 → rank (getD letters k B) ≡ 1 + k
 rank-at k inside =
     sym (getD-map-counting (λ (n : ℕ). rank (getD letters n B)) 0 13 k k 0 inside (omega arith)) ∙ getD-counting 1 13 k 0 inside
 
-same-rank : (letter other : Letter) → rank letter ≡ rank other → letter ≡ other
+pub same-rank : (letter other : Letter) → rank letter ≡ rank other → letter ≡ other
 same-rank letter other same =
     sym (at-rank letter) ∙ ap (λ (n : ℕ). getD letters (n - 1) B) same ∙ at-rank other
 

@@ -23,9 +23,9 @@ inside-step : (first close minute last : ℕ) (later : List (ℕ × ℕ)) (here 
     → cond here (Some close) (ending later minute) ≡ Some last → Inside ((first, close) ∷ later) minute last
 unfolding Inside
 inside-step first close minute last later true is others found =
-    let (from, until) = and-parts _ _ is in
     let same : close ≡ last = cc in
-    (first, inl (refl, same), leb-true _ _ from, omega (arith, ltb-true minute close until))
+    let (from, until) = and-parts (leb first minute) (ltb minute close) is in
+    (first, inl (refl, same), leb-true first minute from, omega (arith, ltb-true minute close until))
 inside-step first close minute last later false is others found =
     let (start, among, from, until) = others found in (start, inr among, from, until)
 
