@@ -81,5 +81,5 @@ worked-cases = record {
   right = right cases (rw half-way refl);
   soybean-ends = refl;
   nikkei-mid = ap price-of half-way;
-  nikkei-trading = rw half-way refl
+  nikkei-trading = rw half-way refl;
 }

@@ -80,7 +80,7 @@ module _ (rule : Rule) (figures : Sheet) where
       record {
         whole-units = sets-hold-what-they-say .counted (rule .unit) price in-set;
         not-above = above-to (rule .share) price _ _ _ high;
-        not-below = below-to (rule .share) price _ _ _ (rule .unit) low
+        not-below = below-to (rule .share) price _ _ _ (rule .unit) low;
       }
 
   from-admitted : (price : ℕ) → 1 ≤ rule .unit → prices .high ≤ last-end → Admits rule figures price → Inside prices price
@@ -97,7 +97,7 @@ module _ (rule : Rule) (figures : Sheet) where
   same-prices : prices ≡ row-product (written rule) .prices figures
   same-prices =
       λ i. ends (rule .unit) (same-centre (rule .from) figures i)
-        (thousandths (rule .share) * amount (figures (rule .share-of)) + 1000 * same-swing (rule .moved) figures i)
+      (thousandths (rule .share) * amount (figures (rule .share-of)) + 1000 * same-swing (rule .moved) figures i)
 
   exactly : (answer : Prices-in-band) → row-product (written rule) .prices figures ≡ answer → 1 ≤ rule .unit → answer .high ≤ last-end
       → (price : ℕ) → (Inside answer price → Admits rule figures price) × (Admits rule figures price → Inside answer price)
@@ -146,5 +146,5 @@ pub books-admit-what-the-rules-admit : Books-admit-what-the-rules-admit
 books-admit-what-the-rules-admit = record {
   single-issue-trading = table-exactly 22 single-issue-rule single-issue-small;
   flexible-trading = table-exactly 4 flexible-rule flexible-small;
-  compression-trading = λ number figures within. compression-exactly figures within (from-to 1 2 number)
+  compression-trading = λ number figures within. compression-exactly figures within (from-to 1 2 number);
 }

@@ -84,11 +84,11 @@ module _ (last : ℕ) (rule : ℕ → Rule) where
     needed = λ number product letter found names.
         subst (λ (p : Product). p .needs letter ≡ true) (listed number (from-to 1 last number) product found) (names-from (rule number) letter names);
     no-other = λ number product letter found need.
-        names-to (rule number) letter (subst (λ (p : Product). p .needs letter ≡ true) (sym (listed number (from-to 1 last number) product found)) need)
+        names-to (rule number) letter (subst (λ (p : Product). p .needs letter ≡ true) (sym (listed number (from-to 1 last number) product found)) need);
   }
 
 pub books-have-their-products : Books-have-their-products
 books-have-their-products = record {
   single-issue-trading = has-its-products 22 single-issue-rule true;
-  flexible-trading = has-its-products 4 flexible-rule true
+  flexible-trading = has-its-products 4 flexible-rule true;
 }

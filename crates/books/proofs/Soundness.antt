@@ -248,9 +248,9 @@ module _ (figures : Sheet) (within : Within-limits figures) where
         let (row, entry, none, gives) = answered (row-in last rule number) prices answer in
         let (same, fits) = listed number row (from-to 1 last number) refl entry in
         let is : row-product (written (rule number)) .prices figures ≡ prices =
-            ap (λ (r : Row). row-product r .prices figures) same ∙ gives in
+        ap (λ (r : Row). row-product r .prices figures) same ∙ gives in
         let lacks-none : lacking (needs (written (rule number))) figures ≡ None =
-            ap (λ (r : Row). lacking (needs r) figures) same ∙ none in
+        ap (λ (r : Row). lacking (needs r) figures) same ∙ none in
         (is, fits, subst Good is (row-good (written (rule number)) fits lacks-none))
 
 -- a book whose answers are good is sound

@@ -11,16 +11,16 @@ use Rattle.rulebook.specs.declared.Letter.{Letter}
 use Rattle.rulebook.specs.declared.Letter.the-variants.{K}
 use Rattle.rulebook.specs.declared.HoursClass.the-variants.{B}
 use Rattle.rulebook.specs.declared.RuleFault.{RuleFault}
-use Rattle.rulebook.specs.declared.RuleFault.the-variants.{ProductAbsent}
+use Rattle.rulebook.specs.declared.RuleFault.the-variants.{ProductAbsent, LetterLacking}
 use Rattle.rulebook.specs.Letters.{same}
 use Rattle.rulebook.specs.Sheets.{Sheet}
-use Rattle.rulebook.specs.Meaning.{Meaning, Product}
+use Rattle.rulebook.specs.Meaning.{Meaning, Product, lacking}
 use Rattle.books.specs.declared.rows.Centre.{Centre}
 use Rattle.books.specs.declared.rows.Centre.the-variants.{TradingPrice, LastPrice, ReferencePrice, TheoreticalPrice}
 use Rattle.books.specs.declared.rows.Row.{Row}
 use Rattle.books.specs.Reference.{amount}
 use Rattle.books.specs.Exchange.{Share, percent, half-a-percent, Measured-from, trading-on, last-traded, reference, theoretical, Rule, single-issue-rule, flexible-rule}
-use Rattle.books.specs.Rows.{row-product}
+use Rattle.books.specs.Rows.{needs, centre, row-product}
 
 abbrev pub thousandths : Share → ℕ
 thousandths (percent n) = 10 * n
@@ -59,6 +59,16 @@ product-of (Err fault) = None
 
 abbrev pub product-in : ℕ → (ℕ → Rule) → ℕ → Option Product
 product-in last rule number = product-of (row-in last rule number)
+
+-- the price that the prices of a row are measured from, or the first letter that it lacks
+abbrev pub centre-unless : Option Letter → ℕ → Result ℕ RuleFault
+centre-unless None price = Ok price
+centre-unless (Some letter) price = Err (LetterLacking letter)
+
+abbrev pub entry-centre : Result Row RuleFault → Sheet → Result ℕ RuleFault
+entry-centre (Ok row) figures =
+    centre-unless (lacking (needs row) figures) (centre (row .centre) (row .«auction_step») figures)
+entry-centre (Err fault) figures = Err fault
 
 abbrev pub single-issue : Meaning
 single-issue = record { halt-binds = true; product = product-in 22 single-issue-rule }

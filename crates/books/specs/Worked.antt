@@ -39,7 +39,7 @@ soybeans = record {
   product = 15;
   figures = with-figure (with-figure all-blank L 15_000) U 15_000;
   admitted = [];
-  turned-away = 10_000 ∷ 15_000 ∷ 20_000 ∷ []
+  turned-away = 10_000 ∷ 15_000 ∷ 20_000 ∷ [];
 }
 
 -- Nikkei 225 futures: the mid-price of 400,000,000 and 400,100,000 is 400,100,000, the higher of two equally near
@@ -49,7 +49,7 @@ nikkei = record {
   product = 5;
   figures = with-figure (with-figure (with-figure all-blank B 400_000_000) O 400_100_000) U 400_000_000;
   admitted = 368_100_000 ∷ 432_100_000 ∷ [];
-  turned-away = 368_099_999 ∷ 432_100_001 ∷ []
+  turned-away = 368_099_999 ∷ 432_100_001 ∷ [];
 }
 
 -- 10-year bonds with nothing but the reference price: a half percent of it is 7,000.75
@@ -59,7 +59,7 @@ bonds = record {
   product = 1;
   figures = with-figure all-blank U 1_400_150;
   admitted = 1_393_150 ∷ 1_407_150 ∷ [];
-  turned-away = 1_393_149 ∷ 1_407_151 ∷ []
+  turned-away = 1_393_149 ∷ 1_407_151 ∷ [];
 }
 
 -- securities options whose underlying has risen, and fallen, by as much
@@ -69,7 +69,7 @@ risen = record {
   product = 17;
   figures = with-figure (with-figure (with-figure all-blank U 100_000) V 20_000_000) W 20_500_000;
   admitted = 1_000 ∷ 2_200_000 ∷ [];
-  turned-away = 0 ∷ 1_500 ∷ 2_201_000 ∷ []
+  turned-away = 0 ∷ 1_500 ∷ 2_201_000 ∷ [];
 }
 
 abbrev pub fallen : Case
@@ -78,7 +78,7 @@ fallen = record {
   product = 17;
   figures = with-figure (with-figure (with-figure all-blank U 100_000) V 20_000_000) W 19_500_000;
   admitted = 1_000 ∷ 2_200_000 ∷ [];
-  turned-away = 0 ∷ 1_500 ∷ 2_201_000 ∷ []
+  turned-away = 0 ∷ 1_500 ∷ 2_201_000 ∷ [];
 }
 
 -- flexible options on TOPIX Banks: eleven hundredths of the index, not one
@@ -88,7 +88,7 @@ banks = record {
   product = 4;
   figures = with-figure (with-figure (with-figure all-blank H 300_000) Z 3_000_000) I 3_000_000;
   admitted = 1 ∷ 630_000 ∷ [];
-  turned-away = 0 ∷ 630_001 ∷ []
+  turned-away = 0 ∷ 630_001 ∷ [];
 }
 
 abbrev pub cases : List Case

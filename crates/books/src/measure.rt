@@ -7,6 +7,8 @@ ghost use Rattle.std.specs.declared.option.Option.the-variants.{Some};
 ghost use Rattle.price.specs.Sets.{last-price, multiples};
 ghost use Rattle.rulebook.specs.Meaning.{first, lacking, in-band, prices-of-product};
 ghost use Rattle.rulebook.specs.Sheets.{sheet, is-blank};
+ghost use Rattle.std.specs.declared.result.Result.the-variants.{Ok};
+ghost use Rattle.books.specs.Books.{entry-centre};
 ghost use Rattle.books.specs.Reference.{amount, nearest-multiple, mid-price, trading-price, last-or-reference};
 ghost use Rattle.books.specs.Rows.{Small, needs, centre, swing, width, row-product, band-of};
 use super::rows::Centre;
@@ -164,6 +166,17 @@ fn band_width(row: Row, figures: &Figures) -> u64
     ensures bound { λ r. ⌜ r ≤ 132_000_000_000_000 ⌝ }
 {
     share(row.weight, amount(figures, row.of)) + 1000 * swing_between(row.swing, figures)
+}
+
+/// The price that the prices of a row are measured from, or the first letter that it lacks.
+pub(crate) fn row_centre(row: Row, figures: &Figures) -> Result<u64, RuleFault>
+    requires { ⌜ Small row ⌝ }
+    ensures { λ r. ⌜ r ≡ entry-centre (Ok row) (sheet (now (figures .entry))) ⌝ }
+{
+    match lacking_letter(row, figures) {
+        Some(letter) => Err(RuleFault::LetterLacking(letter)),
+        None => Ok(centre_price(row, figures)),
+    }
 }
 
 /// The prices of a row, or the first letter that it lacks.

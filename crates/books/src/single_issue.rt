@@ -1,9 +1,11 @@
 //! The single-issue book.
 ghost use mathlib.Core.Path.{_≡_};
 ghost use Rattle.std.specs.Vec.{made};
-ghost use Rattle.books.specs.Books.{single-issue, row-in};
+ghost use Rattle.rulebook.specs.Sheets.{sheet};
+ghost use Rattle.books.specs.Books.{single-issue, row-in, entry-centre};
 ghost use Rattle.books.specs.Exchange.{single-issue-rule};
 ghost use Rattle.books.specs.Rows.{Small};
+use super::measure::row_centre;
 use super::measure::row_prices;
 use super::rows::Row;
 use super::tables::single_issue_row;
@@ -27,6 +29,15 @@ fn row_of(product: u64) -> Result<Row, RuleFault>
         Ok(single_issue_row(product as usize - 1))
     } else {
         Err(RuleFault::ProductAbsent)
+    }
+}
+
+impl SingleIssue {
+    /// The price that a product's prices are measured from.
+    pub fn centre(&self, product: u64, figures: &Figures) -> Result<u64, RuleFault>
+        ensures { λ r. ⌜ r ≡ entry-centre (row-in 22 single-issue-rule product) (sheet (now (figures .entry))) ⌝ }
+    {
+        row_centre(row_of(product)?, figures)
     }
 }
 

@@ -1,3 +1,2 @@
-pub mod Soybeans
 pub mod Quotes
 pub mod Sentences

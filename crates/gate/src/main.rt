@@ -1,55 +1,112 @@
-//! Quotes a soybean block: the prices it may have, and the nearest of them to what a broker asks for.
+//! Quotes single-issue blocks: what a product lacks, or its centre, its band and the nearest price to what is asked for.
 mod quote;
-mod soybean;
 
-use price::Grid;
+use books::SingleIssue;
+use books::SingleIssueRulebook;
 use price::Limit;
 use price::LimitGrid;
 use price::PriceFaultDebug;
 use price::PriceFaultDisplay;
 use price::PriceFaultError;
-use price::StepGrid;
 use price::StepGridGrid;
 use quote::Quote;
 use quote::QuoteDisplay;
-use soybean::UNIT;
-use soybean::band;
+use rulebook::FigureFaultDebug;
+use rulebook::FigureFaultDisplay;
+use rulebook::FigureFaultError;
+use rulebook::Figures;
+use rulebook::Letter;
+use rulebook::LetterDisplay;
+use rulebook::RuleFaultDisplay;
+use rulebook::Rulebook;
 use std::error::AnyError;
 
-/// Answers a broker who asks for `n` over `d`.
-fn answer<G: Grid>(rt: &impl Print, grid: &G, n: u64, d: u64) -> Result<(), AnyError> {
-    let quote = Quote::new(grid, n, d)?;
-    rt.println(quote)?;
+/// Posts `value` under `letter`, and says so.
+fn post(
+    rt: &impl Print,
+    figures: &mut Figures,
+    letter: Letter,
+    value: u64,
+) -> Result<(), AnyError> {
+    figures.post(letter, value)?;
+    println!(rt, "Posted {letter} {value}.")?;
     Ok(())
 }
 
+/// Says what the product lacks, or answers a broker who asks for each of `asked`.
+fn answer(
+    rt: &impl Print,
+    product: u64,
+    figures: &Figures,
+    asked: &[(u64, u64)],
+) -> Result<(), AnyError> {
+    let (centre, band) = match (
+        SingleIssue.centre(product, figures),
+        SingleIssue.band(product, figures),
+    ) {
+        (Ok(centre), Ok(band)) => (centre, band),
+        (Err(fault), _) | (_, Err(fault)) => {
+            println!(rt, "No price: {fault}.")?;
+            return Ok(());
+        }
+    };
+    let low = band.low;
+    let high = band.high;
+    println!(
+        rt,
+        "Centre {centre}, band {low} to {high} thousandths of a pip."
+    )?;
+    let prices = Limit::new(band.grid, low, high)?;
+    for (n, d) in asked {
+        let quote = Quote::new(&prices, *n, *d)?;
+        rt.println(quote)?;
+    }
+    Ok(())
+}
+
+fn soybeans(rt: &impl Print) -> Result<(), AnyError> {
+    println!(rt, "Soybeans, product 15.")?;
+    let mut figures = Figures::blank();
+    answer(rt, 15, &figures, &[(1_005_000, 1)])?;
+    post(rt, &mut figures, Letter::L, 1_000_000)?;
+    post(rt, &mut figures, Letter::U, 1_000_000)?;
+    answer(rt, 15, &figures, &[(1_005_000, 1), (2_009_999, 2)])?;
+    post(rt, &mut figures, Letter::L, 15_000)?;
+    post(rt, &mut figures, Letter::U, 15_000)?;
+    answer(rt, 15, &figures, &[(15_000, 1)])
+}
+
+fn nikkei_futures(rt: &impl Print) -> Result<(), AnyError> {
+    println!(rt, "Nikkei 225 futures, product 5.")?;
+    let mut figures = Figures::blank();
+    post(rt, &mut figures, Letter::B, 400_000_000)?;
+    post(rt, &mut figures, Letter::O, 400_100_000)?;
+    answer(rt, 5, &figures, &[(368_099_999, 1)])?;
+    post(rt, &mut figures, Letter::U, 400_000_000)?;
+    answer(
+        rt,
+        5,
+        &figures,
+        &[(368_099_999, 1), (800_123_457, 2), (432_100_001, 1)],
+    )
+}
+
+fn gold_options(rt: &impl Print) -> Result<(), AnyError> {
+    println!(rt, "Gold futures options, product 22.")?;
+    let mut figures = Figures::blank();
+    post(rt, &mut figures, Letter::U, 1_400_000)?;
+    answer(rt, 22, &figures, &[(1_500_050, 1)])?;
+    post(rt, &mut figures, Letter::X, 190_000_000)?;
+    post(rt, &mut figures, Letter::L, 1_500_000)?;
+    answer(rt, 22, &figures, &[(1_500_050, 1)])
+}
+
 fn quotes(rt: &impl Print) -> Result<(), AnyError> {
-    let (low, high) = band(1_000_000, 1_000_000);
-    println!(
-        rt,
-        "A soybean block: unit {UNIT} pips, last price 1000000, reference price 1000000."
-    )?;
-    println!(
-        rt,
-        "Its band is 32% of the reference price either side: {low} to {high} thousandths of a pip."
-    )?;
-    let block = Limit::new(StepGrid::new(UNIT)?, low, high)?;
-    answer(rt, &block, 1_005_000, 1)?;
-    answer(rt, &block, 2_009_999, 2)?;
-    println!(rt, "The same block under a collar from 1000000 to 1000000.")?;
-    let collared = Limit::new(block, 1_000_000_000, 1_000_000_000)?;
-    answer(rt, &collared, 1_005_000, 1)?;
-    answer(rt, &collared, 2_009_999, 2)?;
-    let (low, high) = band(15_000, 15_000);
-    println!(
-        rt,
-        "A soybean block: unit {UNIT} pips, last price 15000, reference price 15000."
-    )?;
-    println!(
-        rt,
-        "Its band is 32% of the reference price either side: {low} to {high} thousandths of a pip."
-    )?;
-    answer(rt, &Limit::new(StepGrid::new(UNIT)?, low, high)?, 15_000, 1)
+    soybeans(rt)?;
+    nikkei_futures(rt)?;
+    gold_options(rt)?;
+    println!(rt, "Product 23.")?;
+    answer(rt, 23, &Figures::blank(), &[(1, 1)])
 }
 
 fn main(rt: LibcRuntime) -> Result<(), AnyError> {

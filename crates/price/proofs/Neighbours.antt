@@ -211,5 +211,5 @@ nearest-multiple-by-neighbours unit n d price signed test =
     let (one, others) = and-parts _ _ test in
     let (whole, decided-by) = and-parts _ _ others in
     sym (nearest-is-closest (multiples unit) n d (Some (price, signed)) (multiples-are-prices unit)
-      (widened unit n d (Some (price, signed))
-        (decided unit 0 whole-range n d (Some (price, signed)) (leb-true 1 unit one) (leb-true 1 d whole) decided-by)))
+    (widened unit n d (Some (price, signed))
+    (decided unit 0 whole-range n d (Some (price, signed)) (leb-true 1 unit one) (leb-true 1 d whole) decided-by)))

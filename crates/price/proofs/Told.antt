@@ -24,7 +24,7 @@ multiple-from step price positive bounded even =
 pub multiples-are-prices : (step : ℕ) → Prices (multiples step)
 multiples-are-prices step = record {
   positive = λ price in-set. multiple-parts step price in-set .0;
-  bounded = λ price in-set. multiple-parts step price in-set .1
+  bounded = λ price in-set. multiple-parts step price in-set .1;
 }
 
 -- a price between two ends, taken apart and put together

@@ -3,5 +3,6 @@ pub mod Limits
 pub mod Sheets
 pub mod Hours
 pub mod Faults
+pub mod Words
 pub mod Meaning
 pub mod Laws

@@ -1,7 +1,12 @@
 //! Why a figure is not taken, and why a rulebook has no answer.
+ghost use Rattle.std.specs.declared.option.Option.the-variants.{Some};
+ghost use Rattle.rulebook.specs.Words.{figure-words, rule-words};
 use super::letters::Letter;
 use super::letters::LetterDebug;
+use super::letters::LetterDisplay;
 use super::letters::LetterPartialEq;
+use std::error::Error;
+use std::fmt;
 
 #[derive(Clone, Copy, PartialEq, Eq, Debug)]
 pub enum FigureFault {
@@ -18,3 +23,29 @@ pub enum RuleFault {
     /// The figure of this letter is needed and blank.
     LetterLacking(Letter),
 }
+
+pub impl fmt::Display for FigureFault as FigureFaultDisplay {
+    ghost shown = { λ fault. Some (figure-words fault) };
+
+    fn fmt<W: fmt::Write>(&self, f: &mut fmt::Formatter<W>) -> fmt::Result {
+        match *self {
+            FigureFault::UnknownLetter => f.write_str("unknown letter"),
+            FigureFault::ValueOverLimit => f.write_str("value over its limit"),
+        }
+    }
+}
+
+pub impl Error for FigureFault as FigureFaultError {}
+
+pub impl fmt::Display for RuleFault as RuleFaultDisplay {
+    ghost shown = { λ fault. Some (rule-words fault) };
+
+    fn fmt<W: fmt::Write>(&self, f: &mut fmt::Formatter<W>) -> fmt::Result {
+        match *self {
+            RuleFault::ProductAbsent => f.write_str("no such product"),
+            RuleFault::LetterLacking(letter) => write!(f, "figure {letter} is lacking"),
+        }
+    }
+}
+
+pub impl Error for RuleFault as RuleFaultError {}

@@ -1,6 +1,9 @@
 //! The letters of the figures, in the order of their rank.
 ghost use mathlib.Core.Path.{_≡_};
+ghost use Rattle.std.specs.declared.option.Option.the-variants.{Some};
 ghost use Rattle.rulebook.specs.Letters.{rank, same, letter-of, most};
+ghost use Rattle.rulebook.specs.Words.{letter-text};
+use std::fmt;
 
 #[derive(Clone, Copy, PartialEq, Eq, Debug)]
 pub enum Letter {
@@ -91,6 +94,28 @@ impl Letter {
         match self {
             Letter::M => 2,
             _ => 100_000_000_000,
+        }
+    }
+}
+
+pub impl fmt::Display for Letter as LetterDisplay {
+    ghost shown = { λ letter. Some (letter-text letter) };
+
+    fn fmt<W: fmt::Write>(&self, f: &mut fmt::Formatter<W>) -> fmt::Result {
+        match *self {
+            Letter::B => f.write_str("B"),
+            Letter::O => f.write_str("O"),
+            Letter::L => f.write_str("L"),
+            Letter::U => f.write_str("U"),
+            Letter::V => f.write_str("V"),
+            Letter::W => f.write_str("W"),
+            Letter::X => f.write_str("X"),
+            Letter::Y => f.write_str("Y"),
+            Letter::Z => f.write_str("Z"),
+            Letter::H => f.write_str("H"),
+            Letter::I => f.write_str("I"),
+            Letter::K => f.write_str("K"),
+            Letter::M => f.write_str("M"),
         }
     }
 }

@@ -34,7 +34,8 @@ impl Figures {
         if value > letter.most() {
             return Err(FigureFault::ValueOverLimit);
         }
-        self.values[letter.rank() - 1] = figure(value);
+        let place = letter.rank() - 1;
+        self.values[place] = figure(value);
         Ok(())
     }
 }

@@ -10,7 +10,7 @@ pub ghost-self : need.ghost-self
 ghost-self c =
     let inside : rank (c .args .letter) - 1 < length (c .args .self .now .values) = search needs in
     let small : c .args .value ≤ most (c .args .letter) = search needs in (
-      λ place. simp (c .rank .ensures, c .figure .ensures)
+      λ place. simp (c .rank-place .ensures, c .figure .ensures)
           (fits-written (c .args .self .now .values) (rank (c .args .letter) - 1) (c .args .value) place inside (most-at _ _ small) (c .args .self .now .within)),
       tt,
     )
@@ -21,6 +21,6 @@ returns c =
     let small : c .args .value ≤ most (c .args .letter) = search needs in
     record {
       value = search needs;
-      after = sheet-written (c .args .self .now .values) (c .args .letter) (c .args .value) _ _ (c .rank .ensures) (c .figure .ensures) inside small;
+      after = sheet-written (c .args .self .now .values) (c .args .letter) (c .args .value) _ _ (c .rank-place .ensures) (c .figure .ensures) inside small;
       same = tt;
     }
