@@ -112,12 +112,11 @@ auction-step product =
     cond (one-of (6 ∷ []) product) 50_000 ( -- Nikkei 225 mini
     cond (one-of (5 ∷ []) product) 100_000 100)))))))  -- Nikkei 225; bonds and their options
 
--- commodities and gold options are measured from S, other options but those on bonds from U, all else from T
+-- futures on bonds, rates and indices and bond options are measured from T, commodities and gold options from S, other options from U
 abbrev pub from-of : ℕ → Measured-from
 from-of product =
-    cond (one-of commodity-futures product || one-of gold-options product) last-traded (
-    cond (one-of securities-options product || one-of index-options product) reference (
-    trading-on (auction-step product)))
+    cond (one-of bond-and-rate-futures product || (one-of index-futures product || one-of bond-options product)) (trading-on (auction-step product)) (
+    cond (one-of commodity-futures product || one-of gold-options product) last-traded reference)
 
 -- bonds and rates half a percent, 20-year bonds 2; index futures 8, VI 20, dividends 10; commodities 32;
 -- securities options and the nearest three index options 8, other index options 11; bond options half, gold options 10
