@@ -1,0 +1,5 @@
+pub mod Firsts
+pub mod Steps
+pub mod Kept
+pub mod Asks
+pub mod Whole

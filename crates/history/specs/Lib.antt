@@ -1,0 +1,6 @@
+pub mod Faults
+pub mod History
+pub mod Prices
+pub mod Orders
+pub mod Rulings
+pub mod Law

@@ -1,0 +1,124 @@
+-- What each call is answered after a history, and the days that are so answered.
+use Prim.Native.Nat.{ℕ, suc, _*_}
+use mathlib.Core.Path.{_≡_}
+use mathlib.Core.Bool.{Bool, true, false, cond, not, _&&_, _||_}
+use lib.Dec.{eqb, ltb, leb}
+use lib.IntN.{ℤ}
+use Rattle.std.specs.declared.option.Option.{Option}
+use Rattle.std.specs.declared.option.Option.the-variants.{Some, None}
+use Rattle.std.specs.declared.result.Result.{Result}
+use Rattle.std.specs.declared.result.Result.the-variants.{Ok, Err}
+use Rattle.price.specs.declared.PriceFault.the-variants.{FractionOutsideLimits}
+use Rattle.price.specs.Closest.{closest}
+use Rattle.rulebook.specs.declared.Letter.{Letter}
+use Rattle.rulebook.specs.declared.FigureFault.the-variants.{UnknownLetter, ValueOverLimit}
+use Rattle.rulebook.specs.declared.RuleFault.{RuleFault}
+use Rattle.rulebook.specs.Letters.{letter-of, most}
+use Rattle.rulebook.specs.Meaning.{Meaning, hours-of}
+use Rattle.history.specs.declared.calls.Entry.{Entry}
+use Rattle.history.specs.declared.calls.Call.{Call}
+use Rattle.history.specs.declared.calls.Call.the-variants.{List, Post, Collar, Clock, Halt, Lift, Ask, Enter, Withdraw}
+use Rattle.history.specs.declared.answers.Answer.{Answer}
+use Rattle.history.specs.declared.answers.Answer.the-variants.{Listed, Done, Lapsed, Price as Priced, Ordered, Refused}
+use Rattle.history.specs.declared.faults.EntryField.the-variants.{Quantity, Participant, Counterparty}
+use Rattle.history.specs.declared.faults.DayFault.{DayFault}
+use Rattle.history.specs.declared.faults.DayFault.the-variants.{Price, Figure, Rule, MinuteOverLimit, CollarOutsideLimits, EntryOutsideLimits, ContractNotListed, ContractsFull, MinuteBeforePresent, HaltUnchanged, NoAdmissiblePrice, NotOpen, Halted, PriceNotAdmissible, OrdersFull, NoSuchOrder, AnotherParticipants, NotWaiting}
+use Rattle.history.specs.History.{History, opened, after, minute, listed, product, figures, collar, halted}
+use Rattle.history.specs.Prices.{band-now, admissible, is-open, is-stopped, is-fraction}
+use Rattle.history.specs.Orders.{order, orders, known, waits, ends, how-many, earliest}
+
+infixr 20 _otherwise_
+infix 25 _when_
+
+-- a fault, where its ground applies
+abbrev pub _when_ : DayFault → Bool → Option DayFault
+fault when ground = cond ground (Some fault) None
+
+-- refused for a fault, if there is one
+unfoldable pub refuse : Option DayFault → Answer → Answer
+refuse None answer = answer
+refuse (Some fault) answer = Refused fault
+
+abbrev pub _otherwise_ : (Answer → Answer) → Answer → Answer
+refusal otherwise answer = refusal answer
+
+-- the fault that a rulebook answers, if any
+abbrev pub by-the-book : {A : Type 0} → Result A RuleFault → Option DayFault
+by-the-book (Ok said) = None
+by-the-book (Err fault) = Some (Rule fault)
+
+-- not from 1 to a top
+abbrev pub outside : ℕ → ℕ → Bool
+outside top value = eqb value 0 || ltb top value
+
+abbrev pub unlisted : History → ℕ → Bool
+unlisted h contract = outside (listed h) contract
+
+abbrev pub figure-fault : Option Letter → ℕ → Option DayFault
+figure-fault None value = Some (Figure UnknownLetter)
+figure-fault (Some letter) value = Figure ValueOverLimit when ltb (most letter) value
+
+-- neither 0 and 0, nor 1 <= low <= high <= 220,000,000,000
+abbrev pub no-collar : ℕ → ℕ → Bool
+no-collar low high = not ((eqb low 0 && eqb high 0) || (leb 1 low && (leb low high && leb high 220_000_000_000)))
+
+abbrev pub priced : Option (ℕ × ℤ) → Answer
+priced None = Refused NoAdmissiblePrice
+priced (Some (price, distance)) = Priced price distance
+
+-- the first refusal that applies, or else what the call does
+abbrev pub ruled : Meaning → History → Call → Answer
+ruled rules h (List product) =
+  refuse (by-the-book (hours-of rules product)) otherwise
+  refuse (ContractsFull when leb 32 (listed h)) otherwise
+  Listed (suc (listed h))
+ruled rules h (Post contract letter value) =
+  refuse (figure-fault (letter-of letter) value) otherwise
+  refuse (ContractNotListed when unlisted h contract) otherwise
+  Done
+ruled rules h (Collar contract low high) =
+  refuse (CollarOutsideLimits when no-collar low high) otherwise
+  refuse (ContractNotListed when unlisted h contract) otherwise
+  Done
+ruled rules h (Clock to) =
+  refuse (MinuteOverLimit when ltb 1800 to) otherwise
+  refuse (MinuteBeforePresent when ltb to (minute h)) otherwise
+  Lapsed (how-many (λ k. waits rules h k && leb (ends rules h k) to) (orders h))
+ruled rules h (Halt contract) =
+  refuse (ContractNotListed when unlisted h contract) otherwise
+  refuse (HaltUnchanged when halted h contract) otherwise
+  Done
+ruled rules h (Lift contract) =
+  refuse (ContractNotListed when unlisted h contract) otherwise
+  refuse (HaltUnchanged when not (halted h contract)) otherwise
+  Done
+ruled rules h (Ask contract n d) =
+  refuse (Price FractionOutsideLimits when not (is-fraction n d)) otherwise
+  refuse (ContractNotListed when unlisted h contract) otherwise
+  refuse (by-the-book (band-now rules h contract)) otherwise
+  priced (closest (admissible rules h contract) n d)
+ruled rules h (Enter entry) =
+  refuse (EntryOutsideLimits Quantity when outside 10_000 (entry .quantity)) otherwise
+  refuse (EntryOutsideLimits Participant when outside 9_999 (entry .participant)) otherwise
+  refuse (EntryOutsideLimits Counterparty when outside 9_999 (entry .counterparty)) otherwise
+  refuse (ContractNotListed when unlisted h (entry .contract)) otherwise
+  refuse (by-the-book (band-now rules h (entry .contract))) otherwise
+  refuse (NotOpen when not (is-open rules h (entry .contract))) otherwise
+  refuse (Halted when is-stopped rules h (entry .contract)) otherwise
+  refuse (PriceNotAdmissible when not (admissible rules h (entry .contract) (entry .price))) otherwise
+  refuse (OrdersFull when leb 256 (orders h)) otherwise
+  Ordered (suc (orders h)) (earliest rules h entry)
+ruled rules h (Withdraw k participant) =
+  refuse (NoSuchOrder when not (known h k)) otherwise
+  refuse (AnotherParticipants when not (eqb participant (order h k .entry .participant))) otherwise
+  refuse (NotWaiting when not (waits rules h k)) otherwise
+  Done
+
+-- the answer to a call is the one that the history before it fixes
+abbrev pub Fixed : Meaning → History → Call → Answer → Type 0
+Fixed rules h call answer = answer ≡ ruled rules h call
+
+-- every answer of the day is fixed by the history before it
+abbrev pub Lawful : Meaning → History → Type 0
+Lawful rules opened = Unit {0}
+Lawful rules (after h call answer) = Lawful rules h × Fixed rules h call answer
