@@ -27,6 +27,7 @@ use Rattle.history.specs.declared.faults.DayFault.{DayFault}
 use Rattle.history.specs.declared.faults.DayFault.the-variants.{Price as Fraction, ContractNotListed}
 use Rattle.history.specs.History.{History, opened, after, collar, collar-of}
 use Rattle.history.specs.Prices.{inside-collar, admissible-in, band-now, admissible, is-fraction}
+use Rattle.history.specs.Board.{board}
 use Rattle.history.specs.Rulings.{_when_, refuse, by-the-book, unlisted, no-collar, priced, ruled, Fixed, Lawful}
 use Rattle.history.specs.Law.{Made, Asked-right}
 use Rattle.history.proofs.Steps.{Step, step, refused, lists, posts, collars, clocks, halts, lifts, asks, enters, withdraws}
@@ -103,7 +104,6 @@ by-nearest rules h contract n d (Some (best, signed)) answer near is =
 posted : (rules : Meaning) (h : History) (contract n d : ℕ) (prices : Prices-in-band) (band : Result Prices-in-band RuleFault) (answer : Answer)
     → band ≡ Ok prices → answer ≡ refuse (by-the-book band) (priced (closest (admissible rules h contract) n d))
     → answer ≡ priced (closest (admissible rules h contract) n d)
-unfolding refuse
 posted rules h contract n d prices (Ok said) answer is given = given
 posted rules h contract n d prices (Err fault) answer is given = let z : _≡_ {A = ℕ} 0 1 = cc in absurd (omega arith)
 
@@ -114,19 +114,18 @@ band-prices rules h contract prices (Err fault) ends is within = let z : _≡_ {
 
 -- a check that is passed
 pub passed : (fault : DayFault) (ground : Bool) (rest answer : Answer) → ground ≡ false → answer ≡ refuse (fault when ground) rest → answer ≡ rest
-unfolding refuse
 passed fault true rest answer is given = absurd (both-ways true is refl)
 passed fault false rest answer is given = given
 
 pub asked-right : (rules : Meaning) (h : History) → Lawful rules h → (before : History) (contract n d : ℕ) (answer : Answer) (prices : Prices-in-band)
-    → Made h before (Ask contract n d) answer → is-fraction n d ≡ true → unlisted before contract ≡ false
+    → Made h before (Ask contract n d) answer → is-fraction n d ≡ true → unlisted (board rules before) contract ≡ false
     → band-now rules before contract ≡ Ok prices → Asked-right rules before contract n d answer
 asked-right rules h lawful before contract n d answer prices made fraction there band =
     let (fixes, earlier) = fixed rules h before (Ask contract n d) answer lawful made in
     let found = closest (admissible rules before contract) n d in
     let last = refuse (by-the-book (band-now rules before contract)) (priced found) in
-    let first = passed (Fraction FractionOutsideLimits) (not (is-fraction n d)) (refuse (ContractNotListed when unlisted before contract) last) answer (not-from-true _ fraction) fixes in
-    let second = passed ContractNotListed (unlisted before contract) last answer there first in
+    let first = passed (Fraction FractionOutsideLimits) (not (is-fraction n d)) (refuse (ContractNotListed when unlisted (board rules before) contract) last) answer (not-from-true _ fraction) fixes in
+    let second = passed ContractNotListed (unlisted (board rules before) contract) last answer there first in
     by-nearest rules before contract n d found answer
     (closest-is-nearest (admissible rules before contract) n d
       (band-prices rules before contract prices (band-now rules before contract) (collar before contract) band (collared rules before contract earlier)))

@@ -6,7 +6,7 @@ use lib.Dec.{eqb, ltb, leb}
 use native.Mathlib.Nat.{le-refl}
 use native.Mathlib.Omega.{arith}
 use mathlib.Core.Logic.{inl, inr}
-use Rattle.std.proofs.shelf.Tests.{and-parts, and-from, or-parts, or-left, or-right, leb-true, le-leb, ltb-true, lt-ltb, eqb-true, eq-eqb, ne-eqb, not-true, not-from-false, cond-true, cond-false, cases-bool, both-ways}
+use Rattle.std.proofs.shelf.Tests.{and-parts, and-from, or-parts, or-from, or-left, or-right, leb-true, le-leb, ltb-true, ltb-false, lt-ltb, le-ltb, eqb-false, eqb-true, eq-eqb, ne-eqb, not-true, not-from-false, cond-true, cond-false, cases-bool, both-ways}
 use Rattle.rulebook.specs.Meaning.{Meaning}
 use Rattle.history.specs.declared.calls.Side.{Side}
 use Rattle.history.specs.declared.calls.Side.the-variants.{Bid, Offer}
@@ -18,6 +18,9 @@ use Rattle.history.specs.History.{History, after, minute}
 use Rattle.history.specs.Orders.{Order, order, orders, known, taken, withdrawn, hours-end, ends, waits, counters, opposite, earliest}
 use Rattle.history.proofs.Steps.{Step, refused, lists, posts, collars, clocks, halts, lifts, asks, enters, withdraws, Taken}
 
+zero-out : (k : ℕ) → (k ≡ 0 → ⊥) → 1 ≤ k
+zero-out k other = omega arith
+
 -- the parts of `known` and of `waits`
 pub record Known (h : History) (k : ℕ) : Type 0 where
   pub low : 1 ≤ k
@@ -25,11 +28,12 @@ pub record Known (h : History) (k : ℕ) : Type 0 where
 
 pub known-parts : (h : History) (k : ℕ) → known h k ≡ true → Known h k
 known-parts h k is =
-    let (low, high) = and-parts (leb 1 k) (leb k (orders h)) is in
-    record { low = leb-true 1 k low; high = leb-true k (orders h) high }
+    let (positive, most) = or-parts (eqb k 0) (ltb (orders h) k) (not-true _ is) in
+    record { low = zero-out k (eqb-false k 0 positive); high = ltb-false (orders h) k most }
 
 pub known-from : (h : History) (k : ℕ) → 1 ≤ k → k ≤ orders h → known h k ≡ true
-known-from h k low high = and-from (leb 1 k) (leb k (orders h)) (le-leb 1 k low) (le-leb k (orders h) high)
+known-from h k low high =
+    not-from-false _ (or-from (eqb k 0) (ltb (orders h) k) (ne-eqb k 0 (λ zero. omega arith)) (le-ltb (orders h) k high))
 
 pub record Waiting (rules : Meaning) (h : History) (k : ℕ) : Type 0 where
   pub there : known h k ≡ true

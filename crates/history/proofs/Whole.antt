@@ -5,7 +5,7 @@ use mathlib.Core.Bool.{Bool, true, false, cond, not, _&&_}
 use mathlib.Core.Logic.{_⊎_, inl, inr}
 use lib.Dec.{eqb}
 use native.Mathlib.Omega.{arith}
-use Rattle.std.proofs.shelf.Tests.{and-parts, and-cases, cases-lt, both-ways, not-from-true, eq-eqb}
+use Rattle.std.proofs.shelf.Tests.{and-parts, and-cases, cases-lt, both-ways, not-true, not-from-true, eq-eqb}
 use Rattle.rulebook.specs.Meaning.{Meaning}
 use Rattle.history.specs.declared.calls.Entry.{Entry}
 use Rattle.history.specs.declared.calls.Call.{Call}
@@ -15,7 +15,7 @@ use Rattle.history.specs.declared.answers.Answer.the-variants.{Done, Refused}
 use Rattle.history.specs.declared.faults.DayFault.the-variants.{NoSuchOrder, AnotherParticipants, NotWaiting}
 use Rattle.history.specs.History.{History, opened, after}
 use Rattle.history.specs.Orders.{Order, order, orders, known, taken, waits, counters, meets, earliest}
-use Rattle.history.specs.Rulings.{_when_, refuse, Fixed, Lawful}
+use Rattle.history.specs.Rulings.{_when_, refuse, outside, Fixed, Lawful}
 use Rattle.history.specs.Law.{Law, Sound, Trade, Joined, Share-an-order}
 use Rattle.history.proofs.Firsts.{Found, first-is}
 use Rattle.history.proofs.Steps.{Step, step}
@@ -34,7 +34,6 @@ module _ (rules : Meaning) (h : History) where
 
   -- no order that waits counters an entry that found no partner
   unmet : (entry : Entry) → earliest rules h entry ≡ 0 → (k : ℕ) → waits rules h k ≡ true → counters (order h k .entry) entry ≡ false
-  unfolding earliest meets
   unmet entry none k waiting =
       let p = known-parts h k (waits-parts rules h k waiting .there) in
       elim (first-is (meets rules h entry) (orders h)) [
@@ -48,7 +47,6 @@ module _ (rules : Meaning) (h : History) where
 
   -- the partner that an entry found
   met : (entry : Entry) → 0 < earliest rules h entry → Found (meets rules h entry) (orders h) (earliest rules h entry)
-  unfolding earliest
   met entry some =
       elim (first-is (meets rules h entry) (orders h)) [
         | inl nobody ↦ absurd (omega (arith, nobody .zero-is))
@@ -86,7 +84,6 @@ none-left rules (after h call answer) lawful j k wj wk =
 
 done-if : (waiting : Bool) (answer : Answer) → answer ≡ refuse (NotWaiting when not waiting) Done
     → (answer ≡ Done → waiting ≡ true) × (waiting ≡ true → answer ≡ Done)
-unfolding refuse
 done-if true answer given = (λ _. refl, λ _. given)
 done-if false answer given =
     (λ done. absurd (let z : _≡_ {A = ℕ} 0 1 = cc in omega arith), λ is. absurd (both-ways false refl is))
@@ -99,7 +96,7 @@ withdrawable rules h k there answer fixes =
     let last = refuse (NotWaiting when not (waits rules h k)) Done in
     done-if (waits rules h k) answer
     (passed AnotherParticipants (not (eqb own own)) last answer (not-from-true _ (eq-eqb own own refl))
-    (passed NoSuchOrder (not (known h k)) (refuse (AnotherParticipants when not (eqb own own)) last) answer (not-from-true _ there) fixes))
+    (passed NoSuchOrder (outside (orders h) k) (refuse (AnotherParticipants when not (eqb own own)) last) answer (not-true _ there) fixes))
 
 -- trades
 
@@ -133,7 +130,6 @@ record Partner (rules : Meaning) (h : History) (entry : Entry) (j : ℕ) : Type 
 
 partner : (rules : Meaning) (h : History) (call : Call) (answer : Answer) (j k : ℕ) (new : New rules h call answer k)
     → Trade (after h call answer) j k → Partner rules h (new .entry) j
-unfolding meets
 partner rules h call answer j k new t =
     let is : earliest rules h (new .entry) ≡ j = sym (ap (λ (o : Order). o .partner) (new .is)) ∙ t .named in
     let some : 0 < earliest rules h (new .entry) = rw is (t .somebody) in

@@ -17,6 +17,7 @@ use Rattle.history.specs.declared.faults.DayFault.the-variants.{NoAdmissiblePr
 use Rattle.history.specs.History.{History, opened, after, minute, listed}
 use Rattle.history.specs.Prices.{band-now, admissible, is-open, is-stopped, is-fraction}
 use Rattle.history.specs.Orders.{Order, order, known, waits, ends, counters, opposite}
+use Rattle.history.specs.Board.{board}
 use Rattle.history.specs.Rulings.{unlisted, Fixed, Lawful}
 
 -- a call was made and answered after a history, within the day
@@ -60,7 +61,7 @@ Share-an-order j k i m = ((j ≡ i) ⊎ (j ≡ m)) ⊎ ((k ≡ i) ⊎ (k ≡ m))
 pub record Sound (rules : Meaning) (h : History) : Type 0 where
   -- every ask of a listed contract with its figures posted and a fraction within its limits was answered right
   pub asks : (before : History) (contract n d : ℕ) (answer : Answer) (prices : Prices-in-band)
-      → Made h before (Ask contract n d) answer → is-fraction n d ≡ true → unlisted before contract ≡ false
+      → Made h before (Ask contract n d) answer → is-fraction n d ≡ true → unlisted (board rules before) contract ≡ false
       → band-now rules before contract ≡ Ok prices → Asked-right rules before contract n d answer
   -- every trade is a right one, and no order is in two
   pub trades : (earlier later : ℕ) → Trade h earlier later → Joined rules h earlier later

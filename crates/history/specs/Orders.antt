@@ -57,7 +57,7 @@ order (after h call (Refused fault)) k = order h k
 
 -- there is an order of this number
 abbrev pub known : History → ℕ → Bool
-known h k = leb 1 k && leb k (orders h)
+known h k = not (eqb k 0 || ltb (orders h) k)
 
 -- the answer of a later enter names it as its partner
 abbrev pub taken : History → ℕ → Bool
@@ -121,9 +121,9 @@ how-many test zero = 0
 how-many test (suc n) = cond (test (suc n)) (suc (how-many test n)) (how-many test n)
 
 -- an order waits and counters an entry
-unfoldable pub meets : Meaning → History → Entry → ℕ → Bool
+abbrev pub meets : Meaning → History → Entry → ℕ → Bool
 meets rules h entry k = waits rules h k && counters (order h k .entry) entry
 
 -- the earliest waiting order that counters an entry, 0 for none
-unfoldable pub earliest : Meaning → History → Entry → ℕ
+abbrev pub earliest : Meaning → History → Entry → ℕ
 earliest rules h entry = first (meets rules h entry) (orders h)

@@ -4,6 +4,7 @@ use mathlib.Core.Path.{_≡_}
 use mathlib.Core.Bool.{Bool, true, false, cond, not, _&&_, _||_}
 use lib.Dec.{eqb, ltb, leb}
 use lib.IntN.{ℤ}
+use Rattle.std.specs.Options.{isSome}
 use Rattle.std.specs.declared.option.Option.{Option}
 use Rattle.std.specs.declared.option.Option.the-variants.{Some, None}
 use Rattle.std.specs.declared.result.Result.{Result}
@@ -23,9 +24,10 @@ use Rattle.history.specs.declared.answers.Answer.the-variants.{Listed, Done, L
 use Rattle.history.specs.declared.faults.EntryField.the-variants.{Quantity, Participant, Counterparty}
 use Rattle.history.specs.declared.faults.DayFault.{DayFault}
 use Rattle.history.specs.declared.faults.DayFault.the-variants.{Price, Figure, Rule, MinuteOverLimit, CollarOutsideLimits, EntryOutsideLimits, ContractNotListed, ContractsFull, MinuteBeforePresent, HaltUnchanged, NoAdmissiblePrice, NotOpen, Halted, PriceNotAdmissible, OrdersFull, NoSuchOrder, AnotherParticipants, NotWaiting}
-use Rattle.history.specs.History.{History, opened, after, minute, listed, product, figures, collar, halted}
-use Rattle.history.specs.Prices.{band-now, admissible, is-open, is-stopped, is-fraction}
-use Rattle.history.specs.Orders.{order, orders, known, waits, ends, how-many, earliest}
+use Rattle.history.specs.History.{History, opened, after}
+use Rattle.history.specs.Prices.{is-fraction}
+use Rattle.history.specs.Orders.{how-many, first}
+use Rattle.history.specs.Board.{Board, board, band-on, admissible-on, closing-on, meets-on, lapses-on}
 
 infixr 20 _otherwise_
 infix 25 _when_
@@ -35,7 +37,7 @@ abbrev pub _when_ : DayFault → Bool → Option DayFault
 fault when ground = cond ground (Some fault) None
 
 -- refused for a fault, if there is one
-unfoldable pub refuse : Option DayFault → Answer → Answer
+abbrev pub refuse : Option DayFault → Answer → Answer
 refuse None answer = answer
 refuse (Some fault) answer = Refused fault
 
@@ -51,8 +53,8 @@ by-the-book (Err fault) = Some (Rule fault)
 abbrev pub outside : ℕ → ℕ → Bool
 outside top value = eqb value 0 || ltb top value
 
-abbrev pub unlisted : History → ℕ → Bool
-unlisted h contract = outside (listed h) contract
+abbrev pub unlisted : Board → ℕ → Bool
+unlisted b contract = outside (b .listed) contract
 
 abbrev pub figure-fault : Option Letter → ℕ → Option DayFault
 figure-fault None value = Some (Figure UnknownLetter)
@@ -67,52 +69,56 @@ priced None = Refused NoAdmissiblePrice
 priced (Some (price, distance)) = Priced price distance
 
 -- the first refusal that applies, or else what the call does
-abbrev pub ruled : Meaning → History → Call → Answer
-ruled rules h (List product) =
+abbrev pub ruled-on : Meaning → Board → Call → Answer
+ruled-on rules b (List product) =
   refuse (by-the-book (hours-of rules product)) otherwise
-  refuse (ContractsFull when leb 32 (listed h)) otherwise
-  Listed (suc (listed h))
-ruled rules h (Post contract letter value) =
+  refuse (ContractsFull when leb 32 (b .listed)) otherwise
+  Listed (suc (b .listed))
+ruled-on rules b (Post contract letter value) =
   refuse (figure-fault (letter-of letter) value) otherwise
-  refuse (ContractNotListed when unlisted h contract) otherwise
+  refuse (ContractNotListed when unlisted b contract) otherwise
   Done
-ruled rules h (Collar contract low high) =
+ruled-on rules b (Collar contract low high) =
   refuse (CollarOutsideLimits when no-collar low high) otherwise
-  refuse (ContractNotListed when unlisted h contract) otherwise
+  refuse (ContractNotListed when unlisted b contract) otherwise
   Done
-ruled rules h (Clock to) =
+ruled-on rules b (Clock to) =
   refuse (MinuteOverLimit when ltb 1800 to) otherwise
-  refuse (MinuteBeforePresent when ltb to (minute h)) otherwise
-  Lapsed (how-many (λ k. waits rules h k && leb (ends rules h k) to) (orders h))
-ruled rules h (Halt contract) =
-  refuse (ContractNotListed when unlisted h contract) otherwise
-  refuse (HaltUnchanged when halted h contract) otherwise
+  refuse (MinuteBeforePresent when ltb to (b .minute)) otherwise
+  Lapsed (how-many (lapses-on b to) (b .orders))
+ruled-on rules b (Halt contract) =
+  refuse (ContractNotListed when unlisted b contract) otherwise
+  refuse (HaltUnchanged when b .halted contract) otherwise
   Done
-ruled rules h (Lift contract) =
-  refuse (ContractNotListed when unlisted h contract) otherwise
-  refuse (HaltUnchanged when not (halted h contract)) otherwise
+ruled-on rules b (Lift contract) =
+  refuse (ContractNotListed when unlisted b contract) otherwise
+  refuse (HaltUnchanged when not (b .halted contract)) otherwise
   Done
-ruled rules h (Ask contract n d) =
+ruled-on rules b (Ask contract n d) =
   refuse (Price FractionOutsideLimits when not (is-fraction n d)) otherwise
-  refuse (ContractNotListed when unlisted h contract) otherwise
-  refuse (by-the-book (band-now rules h contract)) otherwise
-  priced (closest (admissible rules h contract) n d)
-ruled rules h (Enter entry) =
+  refuse (ContractNotListed when unlisted b contract) otherwise
+  refuse (by-the-book (band-on rules b contract)) otherwise
+  priced (closest (admissible-on rules b contract) n d)
+ruled-on rules b (Enter entry) =
   refuse (EntryOutsideLimits Quantity when outside 10_000 (entry .quantity)) otherwise
   refuse (EntryOutsideLimits Participant when outside 9_999 (entry .participant)) otherwise
   refuse (EntryOutsideLimits Counterparty when outside 9_999 (entry .counterparty)) otherwise
-  refuse (ContractNotListed when unlisted h (entry .contract)) otherwise
-  refuse (by-the-book (band-now rules h (entry .contract))) otherwise
-  refuse (NotOpen when not (is-open rules h (entry .contract))) otherwise
-  refuse (Halted when is-stopped rules h (entry .contract)) otherwise
-  refuse (PriceNotAdmissible when not (admissible rules h (entry .contract) (entry .price))) otherwise
-  refuse (OrdersFull when leb 256 (orders h)) otherwise
-  Ordered (suc (orders h)) (earliest rules h entry)
-ruled rules h (Withdraw k participant) =
-  refuse (NoSuchOrder when not (known h k)) otherwise
-  refuse (AnotherParticipants when not (eqb participant (order h k .entry .participant))) otherwise
-  refuse (NotWaiting when not (waits rules h k)) otherwise
+  refuse (ContractNotListed when unlisted b (entry .contract)) otherwise
+  refuse (by-the-book (band-on rules b (entry .contract))) otherwise
+  refuse (NotOpen when not (isSome (closing-on rules b (entry .contract)))) otherwise
+  refuse (Halted when b .halted (entry .contract) && rules .halt-binds) otherwise
+  refuse (PriceNotAdmissible when not (admissible-on rules b (entry .contract) (entry .price))) otherwise
+  refuse (OrdersFull when leb 256 (b .orders)) otherwise
+  Ordered (suc (b .orders)) (first (meets-on b entry) (b .orders))
+ruled-on rules b (Withdraw k participant) =
+  refuse (NoSuchOrder when outside (b .orders) k) otherwise
+  refuse (AnotherParticipants when not (eqb participant (b .entry k .participant))) otherwise
+  refuse (NotWaiting when not (b .waits k)) otherwise
   Done
+
+-- what a call is answered after a history
+abbrev pub ruled : Meaning → History → Call → Answer
+ruled rules h call = ruled-on rules (board rules h) call
 
 -- the answer to a call is the one that the history before it fixes
 abbrev pub Fixed : Meaning → History → Call → Answer → Type 0
