@@ -19,8 +19,7 @@ use Rattle.history.specs.declared.faults.EntryField.the-variants.{Quantity, Pa
 use Rattle.history.specs.declared.faults.DayFault.{DayFault}
 use Rattle.history.specs.declared.faults.DayFault.the-variants.{Price as Fraction, MinuteOverLimit, CollarOutsideLimits, EntryOutsideLimits, ContractNotListed, ContractsFull, MinuteBeforePresent, HaltUnchanged, NotOpen, Halted, PriceNotAdmissible, OrdersFull, NoSuchOrder, AnotherParticipants, NotWaiting}
 use Rattle.price.specs.declared.PriceFault.the-variants.{FractionOutsideLimits}
-use Rattle.rulebook.specs.Letters.{letter-of}
-use Rattle.history.specs.History.{History, minute}
+use Rattle.history.specs.History.{History, minute, letter-named}
 use Rattle.history.specs.Prices.{admissible, is-open, is-stopped, is-fraction}
 use Rattle.history.specs.Orders.{orders, earliest, how-many, first}
 use Rattle.history.specs.Board.{Board, board, band-on, admissible-on, closing-on, meets-on, lapses-on}
@@ -70,7 +69,7 @@ module _ (rules : Meaning) (h : History) where
       (λ _. unless-when _ ContractsFull (leb 32 (b .listed)) (Listed (suc (b .listed))) (λ _. lists product _))
   view (Post contract letter value) =
       let last = refuse (ContractNotListed when unlisted b contract) Done in
-      or-else (Post contract letter value) (figure-fault (letter-of letter) value) last
+      or-else (Post contract letter value) (figure-fault (letter-named letter) value) last
       (λ _. unless-when _ ContractNotListed (unlisted b contract) Done (λ _. posts contract letter value))
   view (Collar contract low high) =
       let last = refuse (ContractNotListed when unlisted b contract) Done in

@@ -1,11 +1,11 @@
 -- A day's history, the calls with their answers, and what it says of the minute and of each contract.
 use Prim.Native.Nat.{ℕ, suc}
 use mathlib.Core.Bool.{Bool, true, false, cond, _&&_}
-use lib.Dec.{eqb}
+use lib.Dec.{eqb, leb}
 use Rattle.std.specs.declared.option.Option.{Option}
 use Rattle.std.specs.declared.option.Option.the-variants.{Some, None}
 use Rattle.rulebook.specs.declared.Letter.{Letter}
-use Rattle.rulebook.specs.Letters.{letter-of}
+use Rattle.rulebook.specs.Letters.{letter-of, most}
 use Rattle.rulebook.specs.Sheets.{Sheet, all-blank, with-figure}
 use Rattle.history.specs.declared.calls.Entry.{Entry}
 use Rattle.history.specs.declared.calls.Call.{Call}
@@ -75,6 +75,14 @@ product opened contract = 0
 product (after h call answer) contract =
     cond (accepted answer) (product-by contract (suc (listed h)) (product h contract) call) (product h contract)
 
+-- the letter of a character, if it has one
+unfoldable pub letter-named : ℕ → Option Letter
+letter-named character = letter-of character
+
+-- a value may be posted under a letter
+unfoldable pub takes : Letter → ℕ → Bool
+takes letter value = leb value (most letter)
+
 -- a contract's figures: the last accepted post under each letter
 abbrev pub posted-under : Option Letter → Sheet → ℕ → Sheet
 posted-under None before value = before
@@ -82,7 +90,7 @@ posted-under (Some letter) before value = with-figure before letter value
 
 abbrev pub figures-by : ℕ → Sheet → Call → Sheet
 figures-by contract before (List product) = before
-figures-by contract before (Post other letter value) = cond (eqb contract other) (posted-under (letter-of letter) before value) before
+figures-by contract before (Post other letter value) = cond (eqb contract other) (posted-under (letter-named letter) before value) before
 figures-by contract before (Collar other low high) = before
 figures-by contract before (Clock minute) = before
 figures-by contract before (Halt other) = before

@@ -14,7 +14,6 @@ use Rattle.price.specs.Closest.{closest}
 use Rattle.rulebook.specs.declared.Letter.{Letter}
 use Rattle.rulebook.specs.declared.FigureFault.the-variants.{UnknownLetter, ValueOverLimit}
 use Rattle.rulebook.specs.declared.RuleFault.{RuleFault}
-use Rattle.rulebook.specs.Letters.{letter-of, most}
 use Rattle.rulebook.specs.Meaning.{Meaning, hours-of}
 use Rattle.history.specs.declared.calls.Entry.{Entry}
 use Rattle.history.specs.declared.calls.Call.{Call}
@@ -24,7 +23,7 @@ use Rattle.history.specs.declared.answers.Answer.the-variants.{Listed, Done, L
 use Rattle.history.specs.declared.faults.EntryField.the-variants.{Quantity, Participant, Counterparty}
 use Rattle.history.specs.declared.faults.DayFault.{DayFault}
 use Rattle.history.specs.declared.faults.DayFault.the-variants.{Price, Figure, Rule, MinuteOverLimit, CollarOutsideLimits, EntryOutsideLimits, ContractNotListed, ContractsFull, MinuteBeforePresent, HaltUnchanged, NoAdmissiblePrice, NotOpen, Halted, PriceNotAdmissible, OrdersFull, NoSuchOrder, AnotherParticipants, NotWaiting}
-use Rattle.history.specs.History.{History, opened, after}
+use Rattle.history.specs.History.{History, opened, after, letter-named, takes}
 use Rattle.history.specs.Prices.{is-fraction}
 use Rattle.history.specs.Orders.{how-many, first}
 use Rattle.history.specs.Board.{Board, board, band-on, admissible-on, closing-on, meets-on, lapses-on}
@@ -58,7 +57,7 @@ unlisted b contract = outside (b .listed) contract
 
 abbrev pub figure-fault : Option Letter → ℕ → Option DayFault
 figure-fault None value = Some (Figure UnknownLetter)
-figure-fault (Some letter) value = Figure ValueOverLimit when ltb (most letter) value
+figure-fault (Some letter) value = Figure ValueOverLimit when not (takes letter value)
 
 -- neither 0 and 0, nor 1 <= low <= high <= 220,000,000,000
 abbrev pub no-collar : ℕ → ℕ → Bool
@@ -75,7 +74,7 @@ ruled-on rules b (List product) =
   refuse (ContractsFull when leb 32 (b .listed)) otherwise
   Listed (suc (b .listed))
 ruled-on rules b (Post contract letter value) =
-  refuse (figure-fault (letter-of letter) value) otherwise
+  refuse (figure-fault (letter-named letter) value) otherwise
   refuse (ContractNotListed when unlisted b contract) otherwise
   Done
 ruled-on rules b (Collar contract low high) =

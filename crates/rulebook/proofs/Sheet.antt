@@ -10,12 +10,13 @@ use lib.Seq.{getD-set-same, getD-set-other}
 use native.Mathlib.Omega.{arith}
 use Rattle.std.specs.declared.option.Option.{Option}
 use Rattle.std.specs.declared.option.Option.the-variants.{Some, None}
-use Rattle.std.proofs.shelf.Tests.{cases-eq, cases-bool, cond-true, cond-false, eq-eqb, ne-eqb, le-leb, and-from}
+use Rattle.std.proofs.shelf.Tests.{cases-eq, cases-bool, cond-true, cond-false, eq-eqb, ne-eqb, le-leb, leb-true, and-from, and-parts}
 use Rattle.rulebook.specs.declared.letters.Letter.{Letter}
 use Rattle.rulebook.specs.declared.letters.Letter.the-variants.{B, O, L, U, V, W, X, Y, Z, H, I, K, M}
 use Rattle.rulebook.specs.Letters.{rank, same, most}
 use Rattle.rulebook.specs.Limits.{fits}
-use Rattle.rulebook.specs.Sheets.{Sheet, posted, with-figure, after-posting}
+use Rattle.rulebook.specs.declared.figures.Figures.{Figures}
+use Rattle.rulebook.specs.Sheets.{Sheet, sheet, posted, with-figure, after-posting, Within-limits}
 
 pub rank-positive : (letter : Letter) → 1 ≤ rank letter
 rank-positive B = omega arith
@@ -86,17 +87,34 @@ fits-written values index value place inside small all =
     ]
 
 -- the limit of a letter is that of its place
+same-most : (letter : Letter) → most letter ≡ cond (eqb (rank letter - 1) 12) 2 100_000_000_000
+same-most B = refl
+same-most O = refl
+same-most L = refl
+same-most U = refl
+same-most V = refl
+same-most W = refl
+same-most X = refl
+same-most Y = refl
+same-most Z = refl
+same-most H = refl
+same-most I = refl
+same-most K = refl
+same-most M = refl
+
 pub most-at : (letter : Letter) (value : ℕ) → value ≤ most letter → value ≤ cond (eqb (rank letter - 1) 12) 2 100_000_000_000
-most-at B value small = small
-most-at O value small = small
-most-at L value small = small
-most-at U value small = small
-most-at V value small = small
-most-at W value small = small
-most-at X value small = small
-most-at Y value small = small
-most-at Z value small = small
-most-at H value small = small
-most-at I value small = small
-most-at K value small = small
-most-at M value small = small
+most-at letter value small = subst (λ (top : ℕ). value ≤ top) (same-most letter) small
+
+-- the figures of every sheet are within their limits
+fits-parts : (place value : ℕ) → fits place (Some value) ≡ true → (1 ≤ value) × (value ≤ cond (eqb place 12) 2 100_000_000_000)
+fits-parts place value test =
+    let (least, most-of) = and-parts (leb 1 value) _ test in (leb-true 1 value least, leb-true value _ most-of)
+
+pub within-limits : (figures : Figures) → Within-limits (sheet figures)
+within-limits figures = record {
+  positive = λ letter value is.
+      fits-parts (rank letter - 1) value (ap (fits (rank letter - 1)) (sym is) ∙ figures .within (rank letter - 1)) .0;
+  bounded = λ letter value is.
+      subst (λ (top : ℕ). value ≤ top) (sym (same-most letter))
+      (fits-parts (rank letter - 1) value (ap (fits (rank letter - 1)) (sym is) ∙ figures .within (rank letter - 1)) .1)
+}

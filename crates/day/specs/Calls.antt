@@ -1,0 +1,131 @@
+-- What each accepted call makes of the day, and how a call's result reads as an answer.
+use Prim.Native.Nat.{ℕ, suc, _-_}
+use mathlib.Core.Bool.{Bool, true, false, cond, _&&_}
+use mathlib.Core.List.{List, [], _∷_, _++_, map}
+use lib.Dec.{eqb, leb, ltb}
+use lib.IntN.{ℤ}
+use lib.ListN.{length, getD, set}
+use Rattle.std.specs.Results.{isOk}
+use Rattle.std.specs.Options.{valueOr}
+use Rattle.std.specs.declared.option.Option.{Option}
+use Rattle.std.specs.declared.option.Option.the-variants.{Some, None}
+use Rattle.std.specs.declared.result.Result.{Result}
+use Rattle.std.specs.declared.result.Result.the-variants.{Ok, Err}
+use Rattle.rulebook.specs.declared.Letter.{Letter}
+use Rattle.rulebook.specs.Meaning.{Meaning}
+use Rattle.history.specs.declared.Entry.{Entry}
+use Rattle.history.specs.declared.Call.{Call}
+use Rattle.history.specs.declared.Call.the-variants.{List as Listing, Post, Collar, Clock, Halt, Lift, Ask, Enter, Withdraw}
+use Rattle.history.specs.declared.Answer.{Answer}
+use Rattle.history.specs.declared.Answer.the-variants.{Listed, Done, Lapsed, Price, Ordered, Refused}
+use Rattle.history.specs.declared.DayFault.{DayFault}
+use Rattle.history.specs.declared.DayFault.the-variants.{Figure, ContractNotListed}
+use Rattle.rulebook.specs.declared.FigureFault.the-variants.{UnknownLetter, ValueOverLimit}
+use Rattle.history.specs.History.{letter-named, takes, posted-under, collar-of}
+use Rattle.history.specs.Orders.{first}
+use Rattle.history.specs.Board.{closing-on, meets-on}
+use Rattle.history.specs.Rulings.{outside}
+use Rattle.day.specs.declared.contract.Contract.{Contract}
+use Rattle.day.specs.declared.order.Status.{Status}
+use Rattle.day.specs.declared.order.Status.the-variants.{Waiting, Traded, Withdrawn, Lapsed as Over}
+use Rattle.day.specs.declared.order.Order.{Order}
+use Rattle.day.specs.State.{Terms, terms, just-listed, State, numbered, contract-at, order-at, is-waiting, board-of}
+
+-- results as answers
+abbrev pub as-listed : Result ℕ DayFault → Answer
+as-listed (Ok contract) = Listed contract
+as-listed (Err fault) = Refused fault
+
+abbrev pub as-done : Result (Unit {0}) DayFault → Answer
+as-done (Ok done) = Done
+as-done (Err fault) = Refused fault
+
+abbrev pub as-lapsed : Result ℕ DayFault → Answer
+as-lapsed (Ok count) = Lapsed count
+as-lapsed (Err fault) = Refused fault
+
+abbrev pub as-price : Result (ℕ × ℤ) DayFault → Answer
+as-price (Ok (price, distance)) = Price price distance
+as-price (Err fault) = Refused fault
+
+abbrev pub as-ordered : Result (ℕ × ℕ) DayFault → Answer
+as-ordered (Ok (order, partner)) = Ordered order partner
+as-ordered (Err fault) = Refused fault
+
+-- the letter of a character under which a value may be posted
+abbrev pub letter-unless : Option Letter → ℕ → Result Letter DayFault
+letter-unless None value = Err (Figure UnknownLetter)
+letter-unless (Some letter) value = cond (takes letter value) (Ok letter) (Err (Figure ValueOverLimit))
+
+abbrev pub letter-for : ℕ → ℕ → Result Letter DayFault
+letter-for letter value = letter-unless (letter-named letter) value
+
+-- a contract by its number
+abbrev pub found : Result Contract DayFault → Result Terms DayFault
+found (Ok contract) = Ok (terms contract)
+found (Err fault) = Err fault
+
+abbrev pub finding-in : List Terms → ℕ → Result Terms DayFault
+finding-in contracts number =
+    cond (outside (length contracts) number) (Err ContractNotListed) (Ok (numbered (just-listed 0) contracts number))
+
+abbrev pub finding : State → ℕ → Result Terms DayFault
+finding s contract = finding-in (s .contracts) contract
+
+-- the day with one more contract
+abbrev pub with-one-more : State → Terms → State
+with-one-more s contract = record { minute = s .minute; contracts = s .contracts ++ (contract ∷ []); orders = s .orders }
+
+-- the day with other terms for a contract
+abbrev pub with-terms : State → ℕ → Terms → State
+with-terms s contract changed = record { minute = s .minute; contracts = set (s .contracts) (contract - 1) changed; orders = s .orders }
+
+abbrev pub with-figures : Terms → Option Letter → ℕ → Terms
+with-figures t letter value =
+    record { product = t .product; figures = posted-under letter (t .figures) value; collar = t .collar; halted = t .halted }
+
+abbrev pub with-collar : Terms → ℕ → ℕ → Terms
+with-collar t low high = record { product = t .product; figures = t .figures; collar = collar-of low high; halted = t .halted }
+
+abbrev pub with-halt : Terms → Bool → Terms
+with-halt t halted = record { product = t .product; figures = t .figures; collar = t .collar; halted = halted }
+
+-- an order with another status
+abbrev pub marked : Order → Status → Order
+marked order status = record { entry = order .entry; until = order .until; status = status }
+
+-- an order when the clock comes to a minute: one that waits lapses where its hours have ended
+abbrev pub clocked : ℕ → Order → Order
+clocked to order = cond (is-waiting (order .status) && leb (order .until) to) (marked order Over) order
+
+-- the orders when one more comes: it waits, or trades with its partner
+abbrev pub paired : ℕ → List Order → Entry → ℕ → List Order
+paired partner orders entry until =
+    cond (eqb partner 0)
+    (orders ++ (record { entry = entry; until = until; status = Waiting } ∷ []))
+    (set orders (partner - 1) (marked (getD orders (partner - 1) (record { entry = entry; until = 0; status = Over })) Traded)
+      ++ (record { entry = entry; until = until; status = Traded } ∷ []))
+
+abbrev pub partner-on : State → Entry → ℕ
+partner-on s entry = first (meets-on (board-of s) entry) (length (s .orders))
+
+-- the day after an accepted call
+abbrev pub changed : Meaning → State → Call → State
+changed rules s (Listing product) = with-one-more s (just-listed product)
+changed rules s (Post contract letter value) =
+    with-terms s contract (with-figures (contract-at s contract) (letter-named letter) value)
+changed rules s (Collar contract low high) = with-terms s contract (with-collar (contract-at s contract) low high)
+changed rules s (Clock to) = record { minute = to; contracts = s .contracts; orders = map (clocked to) (s .orders) }
+changed rules s (Halt contract) = with-terms s contract (with-halt (contract-at s contract) true)
+changed rules s (Lift contract) = with-terms s contract (with-halt (contract-at s contract) false)
+changed rules s (Ask contract n d) = s
+changed rules s (Enter entry) = record {
+  minute = s .minute;
+  contracts = s .contracts;
+  orders = paired (partner-on s entry) (s .orders) entry (valueOr (closing-on rules (board-of s) (entry .contract)) 0)
+}
+changed rules s (Withdraw number participant) = record {
+  minute = s .minute;
+  contracts = s .contracts;
+  orders = set (s .orders) (number - 1) (marked (order-at s number) Withdrawn)
+}

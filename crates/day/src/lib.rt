@@ -1,0 +1,13 @@
+//! The trading day, over any rulebook.
+mod collar;
+mod contract;
+mod numbered;
+mod order;
+mod prices;
+mod state;
+
+pub use collar::Collar;
+pub use contract::Contract;
+pub use order::Order;
+pub use order::Status;
+pub use state::Day;
