@@ -1,5 +1,5 @@
 -- Contracts by their numbers, seen through their terms.
-use Prim.Native.Nat.{ℕ, _-_, _≤_, _<_}
+use Prim.Native.Nat.{ℕ, suc, _-_, _≤_, _<_}
 use mathlib.Core.Path.{_≡_, refl, sym, ap, subst, _∙_}
 use mathlib.Core.Bool.{Bool, true, false, cond, _||_}
 use mathlib.Core.List.{List, map}
@@ -14,7 +14,8 @@ use Rattle.history.specs.declared.DayFault.{DayFault}
 use Rattle.history.specs.declared.DayFault.the-variants.{ContractNotListed}
 use Rattle.history.specs.Rulings.{outside}
 use Rattle.day.specs.declared.contract.Contract.{Contract}
-use Rattle.day.specs.State.{Terms, terms, just-listed, numbered}
+use Rattle.day.specs.declared.order.Order.{Order}
+use Rattle.day.specs.State.{Terms, terms, just-listed, numbered, no-order}
 use Rattle.day.specs.Calls.{finding-in}
 
 above-zero : (number : ℕ) → (number ≡ 0 → ⊥) → 1 ≤ number
@@ -51,3 +52,9 @@ inside last number is =
 pub put-at : (list : List Contract) (number : ℕ) (changed : Contract)
     → map terms (set list (number - 1) changed) ≡ set (map terms list) (number - 1) (terms changed)
 put-at list number changed = map-set terms list (number - 1) changed
+
+-- the order after so many
+pub order-next : (orders : List Order) (i : ℕ) → numbered no-order orders (suc i) ≡ getD orders i no-order
+order-next orders i =
+    cond-false (eqb (suc i) 0) no-order _ (ne-eqb (suc i) 0 (λ zero. omega arith))
+    ∙ ap (λ (k : ℕ). getD orders k no-order) (omega arith)

@@ -22,14 +22,14 @@ use Rattle.history.specs.declared.DayFault.{DayFault}
 use Rattle.history.specs.declared.DayFault.the-variants.{Figure, ContractNotListed}
 use Rattle.rulebook.specs.declared.FigureFault.the-variants.{UnknownLetter, ValueOverLimit}
 use Rattle.history.specs.History.{letter-named, takes, posted-under, collar-of}
-use Rattle.history.specs.Orders.{first}
+use Rattle.history.specs.Orders.{first, counters}
 use Rattle.history.specs.Board.{closing-on, meets-on}
 use Rattle.history.specs.Rulings.{outside}
 use Rattle.day.specs.declared.contract.Contract.{Contract}
 use Rattle.day.specs.declared.order.Status.{Status}
 use Rattle.day.specs.declared.order.Status.the-variants.{Waiting, Traded, Withdrawn, Lapsed as Over}
 use Rattle.day.specs.declared.order.Order.{Order}
-use Rattle.day.specs.State.{Terms, terms, just-listed, State, numbered, contract-at, order-at, is-waiting, board-of}
+use Rattle.day.specs.State.{Terms, terms, just-listed, State, numbered, no-order, contract-at, order-at, is-waiting, board-of}
 
 -- results as answers
 abbrev pub as-listed : Result ℕ DayFault → Answer
@@ -94,9 +94,23 @@ with-halt t halted = record { product = t .product; figures = t .figures; collar
 abbrev pub marked : Order → Status → Order
 marked order status = record { entry = order .entry; until = order .until; status = status }
 
+-- a waiting order whose hours have ended by a minute
+abbrev pub is-due : ℕ → Order → Bool
+is-due to order = is-waiting (order .status) && leb (order .until) to
+
+abbrev pub due-at : List Order → ℕ → ℕ → Bool
+due-at orders to number = is-due to (numbered no-order orders number)
+
+-- a waiting order that counters an entry
+abbrev pub meets : Order → Entry → Bool
+meets order entry = is-waiting (order .status) && counters (order .entry) entry
+
+abbrev pub meets-at : List Order → Entry → ℕ → Bool
+meets-at orders entry number = meets (numbered no-order orders number) entry
+
 -- an order when the clock comes to a minute: one that waits lapses where its hours have ended
 abbrev pub clocked : ℕ → Order → Order
-clocked to order = cond (is-waiting (order .status) && leb (order .until) to) (marked order Over) order
+clocked to order = cond (is-due to order) (marked order Over) order
 
 -- the orders when one more comes: it waits, or trades with its partner
 abbrev pub paired : ℕ → List Order → Entry → ℕ → List Order

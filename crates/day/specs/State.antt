@@ -18,10 +18,13 @@ use Rattle.history.specs.declared.DayFault.{DayFault}
 use Rattle.history.specs.declared.DayFault.the-variants.{Rule, CollarOutsideLimits}
 use Rattle.history.specs.declared.Entry.{Entry}
 use Rattle.history.specs.History.{collar-of}
-use Rattle.history.specs.Prices.{inside-collar}
+use Rattle.price.specs.Closest.{closest}
+use Rattle.history.specs.declared.Answer.{Answer}
+use Rattle.history.specs.declared.Answer.the-variants.{Refused}
+use Rattle.history.specs.Prices.{inside-collar, admissible-in}
 use Rattle.history.specs.Orders.{no-entry}
 use Rattle.history.specs.Board.{Board}
-use Rattle.history.specs.Rulings.{no-collar}
+use Rattle.history.specs.Rulings.{refuse, by-the-book, priced, no-collar}
 use Rattle.day.specs.declared.collar.Collar.{Collar}
 use Rattle.day.specs.declared.contract.Contract.{Contract}
 use Rattle.day.specs.declared.order.Status.{Status}
@@ -119,6 +122,19 @@ abbrev pub in-collar : Option (ℕ × ℕ) → Result Prices-in-band RuleFault �
 in-collar collar (Ok prices) = Ok (inside-collar collar (between (prices .low) (prices .high) (prices .on-grid)))
 in-collar collar (Err fault) = Err (Rule fault)
 
+-- what the rulebook says of a contract's prices
+abbrev pub band-for : Meaning → Terms → Result Prices-in-band RuleFault
+band-for rules contract = prices-of rules (contract .product) (contract .figures)
+
 -- the admissible prices of a contract, or why it has none
 abbrev pub admissible-set : Meaning → Terms → Result PriceSet DayFault
-admissible-set rules contract = in-collar (contract .collar) (prices-of rules (contract .product) (contract .figures))
+admissible-set rules contract = in-collar (contract .collar) (band-for rules contract)
+
+-- the answer to a broker who asks for n / d: by what the rulebook says, and as the rulings put it
+abbrev pub asked-in : Result Prices-in-band RuleFault → Option (ℕ × ℕ) → ℕ → ℕ → Answer
+asked-in (Ok prices) collar n d = priced (closest (admissible-in (Ok prices) collar) n d)
+asked-in (Err fault) collar n d = Refused (Rule fault)
+
+abbrev pub asked-of : Meaning → Terms → ℕ → ℕ → Answer
+asked-of rules contract n d =
+    refuse (by-the-book (band-for rules contract)) (priced (closest (admissible-in (band-for rules contract) (contract .collar)) n d))

@@ -1,6 +1,7 @@
 //! The trading day, over any rulebook.
 mod collar;
 mod contract;
+mod matching;
 mod numbered;
 mod order;
 mod prices;

@@ -3,10 +3,10 @@ use history::Entry;
 
 #[derive(Clone, Copy)]
 pub enum Status {
-    Waiting,
-    Traded,
-    Withdrawn,
     Lapsed,
+    Withdrawn,
+    Traded,
+    Waiting,
 }
 
 #[derive(Clone, Copy)]

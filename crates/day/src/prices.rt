@@ -2,7 +2,8 @@
 ghost use Prim.Native.Nat.{ℕ, _*_, _≤_};
 ghost use mathlib.Core.Path.{_≡_};
 ghost use Rattle.price.specs.Sets.{last-end};
-ghost use Rattle.day.specs.State.{terms, collar-limits, set-of, admissible-set};
+ghost use Rattle.day.specs.Calls.{as-price};
+ghost use Rattle.day.specs.State.{terms, collar-limits, set-of, band-for, admissible-set, asked-in, asked-of};
 use super::contract::Contract;
 use history::DayFault;
 use history::DayFaultFromPrice;
@@ -47,4 +48,19 @@ pub(crate) fn admits<G: Grid>(grid: &G, price: u64) -> bool
         },
         Err(_) => false,
     }
+}
+
+/// The nearest admissible price of a contract to a fraction.
+fn nearest_admissible<R: Rulebook>(book: &R, contract: &Contract, fraction: Fraction) -> Result<(u64, i64), DayFault>
+    ensures { λ r. ⌜ as-price r ≡ asked-in (band-for (R·Rulebook .meaning (now (book .entry))) (terms (now (contract .entry)))) (terms (now (contract .entry)) .collar) (fraction .numerator) (fraction .divisor) ⌝ }
+{
+    let prices = admissible_prices(book, contract)?;
+    nearest(&prices, fraction).ok_or(DayFault::NoAdmissiblePrice)
+}
+
+/// The answer to a broker who asks a contract for a fraction.
+pub(crate) fn asked<R: Rulebook>(book: &R, contract: &Contract, fraction: Fraction) -> Result<(u64, i64), DayFault>
+    ensures { λ r. ⌜ as-price r ≡ asked-of (R·Rulebook .meaning (now (book .entry))) (terms (now (contract .entry))) (fraction .numerator) (fraction .divisor) ⌝ }
+{
+    nearest_admissible(book, contract, fraction)
 }

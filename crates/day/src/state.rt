@@ -5,6 +5,7 @@ use super::contract::Contract;
 use super::order::Order;
 use rulebook::Rulebook;
 
+mod asking;
 mod contracts;
 mod listing;
 mod opening;
