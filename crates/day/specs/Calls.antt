@@ -19,7 +19,7 @@ use Rattle.history.specs.declared.Call.the-variants.{List as Listing, Post, Col
 use Rattle.history.specs.declared.Answer.{Answer}
 use Rattle.history.specs.declared.Answer.the-variants.{Listed, Done, Lapsed, Price, Ordered, Refused}
 use Rattle.history.specs.declared.DayFault.{DayFault}
-use Rattle.history.specs.declared.DayFault.the-variants.{Figure, ContractNotListed}
+use Rattle.history.specs.declared.DayFault.the-variants.{Figure, ContractNotListed, NoSuchOrder}
 use Rattle.rulebook.specs.declared.FigureFault.the-variants.{UnknownLetter, ValueOverLimit}
 use Rattle.history.specs.History.{letter-named, takes, posted-under, collar-of}
 use Rattle.history.specs.Orders.{first, counters}
@@ -112,16 +112,32 @@ meets-at orders entry number = meets (numbered no-order orders number) entry
 abbrev pub clocked : ℕ → Order → Order
 clocked to order = cond (is-due to order) (marked order Over) order
 
--- the orders when one more comes: it waits, or trades with its partner
-abbrev pub paired : ℕ → List Order → Entry → ℕ → List Order
-paired partner orders entry until =
-    cond (eqb partner 0)
-    (orders ++ (record { entry = entry; until = until; status = Waiting } ∷ []))
-    (set orders (partner - 1) (marked (getD orders (partner - 1) (record { entry = entry; until = 0; status = Over })) Traded)
-      ++ (record { entry = entry; until = until; status = Traded } ∷ []))
-
 abbrev pub partner-on : State → Entry → ℕ
 partner-on s entry = first (meets-on (board-of s) entry) (length (s .orders))
+
+-- the day with its orders as the clock leaves them
+abbrev pub with-clocked : State → ℕ → State
+with-clocked s to = record { minute = s .minute; contracts = s .contracts; orders = map (clocked to) (s .orders) }
+
+-- an order by its number
+abbrev pub ordering : State → ℕ → Result Order DayFault
+ordering s number = cond (outside (length (s .orders)) number) (Err NoSuchOrder) (Ok (order-at s number))
+
+-- the day with another status for an order
+abbrev pub with-marked : State → ℕ → Status → State
+with-marked s number status =
+    record { minute = s .minute; contracts = s .contracts; orders = set (s .orders) (number - 1) (marked (order-at s number) status) }
+
+-- the day with one more order
+abbrev pub with-order : State → Order → State
+with-order s order = record { minute = s .minute; contracts = s .contracts; orders = s .orders ++ (order ∷ []) }
+
+-- the day when an order comes: it waits, or it trades with its partner
+abbrev pub paired : State → ℕ → Entry → ℕ → State
+paired s partner entry until =
+    cond (eqb partner 0)
+    (with-order s (record { entry = entry; until = until; status = Waiting }))
+    (with-order (with-marked s partner Traded) (record { entry = entry; until = until; status = Traded }))
 
 -- the day after an accepted call
 abbrev pub changed : Meaning → State → Call → State
@@ -133,13 +149,5 @@ changed rules s (Clock to) = record { minute = to; contracts = s .contracts; ord
 changed rules s (Halt contract) = with-terms s contract (with-halt (contract-at s contract) true)
 changed rules s (Lift contract) = with-terms s contract (with-halt (contract-at s contract) false)
 changed rules s (Ask contract n d) = s
-changed rules s (Enter entry) = record {
-  minute = s .minute;
-  contracts = s .contracts;
-  orders = paired (partner-on s entry) (s .orders) entry (valueOr (closing-on rules (board-of s) (entry .contract)) 0)
-}
-changed rules s (Withdraw number participant) = record {
-  minute = s .minute;
-  contracts = s .contracts;
-  orders = set (s .orders) (number - 1) (marked (order-at s number) Withdrawn)
-}
+changed rules s (Enter entry) = paired s (partner-on s entry) entry (valueOr (closing-on rules (board-of s) (entry .contract)) 0)
+changed rules s (Withdraw number participant) = with-marked s number Withdrawn

@@ -60,3 +60,43 @@ pub(crate) fn earliest_countering(orders: &[Order], incoming: &Entry) -> u64
     }
     0
 }
+
+/// Whether an order waits and its hours have ended by the minute `to`.
+fn is_due(order: &Order, to: u64) -> bool
+    ensures { λ r. ⌜ r ≡ is-due to (now (order .entry)) ⌝ }
+{
+    matches!(order.status, Status::Waiting) && order.until <= to
+}
+
+/// How many orders lapse by the minute `to`.
+pub(crate) fn count_due(orders: &[Order], to: u64) -> u64
+    ensures { λ r. ⌜ r ≡ how-many (due-at (now (orders .entry)) to) (length (now (orders .entry))) ⌝ }
+{
+    let mut count = 0;
+    for i in 0..orders.len() {
+        if is_due(&orders[i], to) {
+            count += 1;
+        }
+    }
+    count
+}
+
+/// An order when the clock comes to the minute `to`.
+fn clocked(order: Order, to: u64) -> Order
+    ensures { λ r. ⌜ r ≡ clocked to order ⌝ }
+{
+    if is_due(&order, to) {
+        Order { entry: order.entry, until: order.until, status: Status::Lapsed }
+    } else {
+        order
+    }
+}
+
+/// Lapses the orders that are due by the minute `to`.
+pub(crate) fn lapse_due(orders: &mut [Order], to: u64)
+    ensures { λ _. ⌜ now (orders .exit) ≡ map (clocked to) (now (orders .entry)) ⌝ }
+{
+    for i in 0..orders.len() {
+        orders[i] = clocked(orders[i], to);
+    }
+}

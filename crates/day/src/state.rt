@@ -9,6 +9,8 @@ mod asking;
 mod contracts;
 mod listing;
 mod opening;
+mod orders;
+mod trading;
 
 /// All the memory that the day can need is there from its opening on.
 #[derive(Drop)]
