@@ -32,15 +32,16 @@ found-nearest set n d found prices is = subst (Nearest set n d) (sym is) (closes
 -- the ends of a band fit a limit
 pub ends-fit : (rules : Meaning) → Sound rules → (product : ℕ) (figures : Figures) (prices : Prices-in-band)
     → Ok prices ≡ prices-of rules product (sheet figures) → (prices .low ≤ last-end) × (prices .high ≤ last-end)
-ends-fit rules sound product figures prices is =
-    (sound .low-most product (sheet figures) prices (within-limits figures) (sym is),
-     sound .high-most product (sheet figures) prices (within-limits figures) (sym is))
+ends-fit rules sound product figures prices is = (
+  sound .low-most product (sheet figures) prices (within-limits figures) (sym is),
+  sound .high-most product (sheet figures) prices (within-limits figures) (sym is),
+)
 
 -- a limit whose ends fit is not refused
 pub never-refused : {G : Type 0} (grid : G) (low high number : ℕ) → Err number ≡ limit grid low high → low ≤ last-end → high ≤ last-end → ⊥
 never-refused {G} grid low high number refused low-fits high-fits =
     let made : _≡_ {A = Result (G × ℕ × ℕ) ℕ} (Err number) (Ok (grid, low, high)) =
-        refused ∙ cond-true _ _ _ (and-from _ _ (and-from _ _ (le-leb 0 low (omega arith)) (le-leb low last-end low-fits)) (and-from _ _ (le-leb 0 high (omega arith)) (le-leb high last-end high-fits))) in
+    refused ∙ cond-true _ _ _ (and-from _ _ (and-from _ _ (le-leb 0 low (omega arith)) (le-leb low last-end low-fits)) (and-from _ _ (le-leb 0 high (omega arith)) (le-leb high last-end high-fits))) in
     let z : _≡_ {A = ℕ} 0 1 = cc in omega arith
 
 -- the two ways to put the answer to an ask are one

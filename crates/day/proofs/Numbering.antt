@@ -30,9 +30,9 @@ module _ (list : List Contract) (number : ℕ) where
       → Ok (terms contract) ≡ finding-in (map terms list) number
   found-at contract least most is =
       let here : terms contract ≡ numbered (just-listed 0) (map terms list) number =
-          ap terms is
-          ∙ sym (getD-map terms list (number - 1) contract (just-listed 0) (omega arith))
-          ∙ sym (cond-false (eqb number 0) (just-listed 0) _ (ne-eqb number 0 (λ zero. omega arith))) in
+      ap terms is
+      ∙ sym (getD-map terms list (number - 1) contract (just-listed 0) (omega arith))
+      ∙ sym (cond-false (eqb number 0) (just-listed 0) _ (ne-eqb number 0 (λ zero. omega arith))) in
       ap Ok here ∙ sym (cond-false (outside (length (map terms list)) number) _ _ (within least most))
 
   pub none-at-zero : number ≡ 0 → Err ContractNotListed ≡ finding-in (map terms list) number
@@ -42,7 +42,7 @@ module _ (list : List Contract) (number : ℕ) where
   pub none-beyond : length list < number → Err ContractNotListed ≡ finding-in (map terms list) number
   none-beyond more =
       sym (cond-true (outside (length (map terms list)) number) _ _
-        (or-right (eqb number 0) _ (lt-ltb (length (map terms list)) number (omega (arith, length-map list terms)))))
+      (or-right (eqb number 0) _ (lt-ltb (length (map terms list)) number (omega (arith, length-map list terms)))))
 
 pub inside : (last number : ℕ) → outside last number ≡ false → (1 ≤ number) × (number ≤ last)
 inside last number is =

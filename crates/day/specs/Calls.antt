@@ -1,35 +1,37 @@
 -- What each accepted call makes of the day, and how a call's result reads as an answer.
 use Prim.Native.Nat.{ℕ, suc, _-_}
-use mathlib.Core.Bool.{Bool, true, false, cond, _&&_}
+use mathlib.Core.Bool.{Bool, true, false, cond, not, _&&_}
 use mathlib.Core.List.{List, [], _∷_, _++_, map}
 use lib.Dec.{eqb, leb, ltb}
 use lib.IntN.{ℤ}
 use lib.ListN.{length, getD, set}
 use Rattle.std.specs.Results.{isOk}
-use Rattle.std.specs.Options.{valueOr}
+use Rattle.std.specs.Options.{isSome, valueOr}
 use Rattle.std.specs.declared.option.Option.{Option}
 use Rattle.std.specs.declared.option.Option.the-variants.{Some, None}
 use Rattle.std.specs.declared.result.Result.{Result}
 use Rattle.std.specs.declared.result.Result.the-variants.{Ok, Err}
 use Rattle.rulebook.specs.declared.Letter.{Letter}
-use Rattle.rulebook.specs.Meaning.{Meaning}
+use Rattle.rulebook.specs.Meaning.{Meaning, hours-of}
 use Rattle.history.specs.declared.Entry.{Entry}
 use Rattle.history.specs.declared.Call.{Call}
 use Rattle.history.specs.declared.Call.the-variants.{List as Listing, Post, Collar, Clock, Halt, Lift, Ask, Enter, Withdraw}
 use Rattle.history.specs.declared.Answer.{Answer}
 use Rattle.history.specs.declared.Answer.the-variants.{Listed, Done, Lapsed, Price, Ordered, Refused}
 use Rattle.history.specs.declared.DayFault.{DayFault}
-use Rattle.history.specs.declared.DayFault.the-variants.{Figure, ContractNotListed, NoSuchOrder}
+use Rattle.history.specs.declared.DayFault.the-variants.{Figure, EntryOutsideLimits, ContractNotListed, NotOpen, Halted, PriceNotAdmissible, OrdersFull, NoSuchOrder}
+use Rattle.history.specs.declared.EntryField.the-variants.{Quantity, Participant, Counterparty}
 use Rattle.rulebook.specs.declared.FigureFault.the-variants.{UnknownLetter, ValueOverLimit}
 use Rattle.history.specs.History.{letter-named, takes, posted-under, collar-of}
 use Rattle.history.specs.Orders.{first, counters}
+use Rattle.history.specs.Prices.{closing-in}
 use Rattle.history.specs.Board.{closing-on, meets-on}
-use Rattle.history.specs.Rulings.{outside}
+use Rattle.history.specs.Rulings.{_when_, outside}
 use Rattle.day.specs.declared.contract.Contract.{Contract}
 use Rattle.day.specs.declared.order.Status.{Status}
 use Rattle.day.specs.declared.order.Status.the-variants.{Waiting, Traded, Withdrawn, Lapsed as Over}
 use Rattle.day.specs.declared.order.Order.{Order}
-use Rattle.day.specs.State.{Terms, terms, just-listed, State, numbered, no-order, contract-at, order-at, is-waiting, board-of}
+use Rattle.day.specs.State.{Terms, terms, just-listed, State, numbered, no-order, contract-at, order-at, is-waiting, board-of, admissible-set}
 
 -- results as answers
 abbrev pub as-listed : Result ℕ DayFault → Answer
@@ -138,6 +140,52 @@ paired s partner entry until =
     cond (eqb partner 0)
     (with-order s (record { entry = entry; until = until; status = Waiting }))
     (with-order (with-marked s partner Traded) (record { entry = entry; until = until; status = Traded }))
+
+-- refused for a fault, if there is one
+abbrev pub deny : {A : Type 0} → Option DayFault → Result A DayFault → Result A DayFault
+deny None rest = rest
+deny (Some fault) rest = Err fault
+
+abbrev pub then : {A B : Type 0} → Result A DayFault → (A → Result B DayFault) → Result B DayFault
+then (Ok value) rest = rest value
+then (Err fault) rest = Err fault
+
+-- the checks of an entry's own fields
+abbrev pub within-limits : Entry → Result (Unit {0}) DayFault
+within-limits entry =
+    deny (EntryOutsideLimits Quantity when outside 10_000 (entry .quantity))
+    (deny (EntryOutsideLimits Participant when outside 9_999 (entry .participant))
+    (deny (EntryOutsideLimits Counterparty when outside 9_999 (entry .counterparty)) (Ok tt)))
+
+-- the checks of an entry against its contract: with the set of its admissible prices, the end of the hours
+abbrev pub admitted-at : Meaning → State → Terms → Entry → Result ℕ DayFault
+admitted-at rules s contract entry =
+    then (admissible-set rules contract) (λ set.
+    deny (NotOpen when not (isSome (closing-in (hours-of rules (contract .product)) (s .minute))))
+    (deny (Halted when (contract .halted && rules .halt-binds))
+    (deny (PriceNotAdmissible when not (set (entry .price)))
+    (Ok (valueOr (closing-in (hours-of rules (contract .product)) (s .minute)) 0)))))
+
+-- the checks of an entry against the contract that it names
+abbrev pub admitted-by-contract : Meaning → State → Entry → Result ℕ DayFault
+admitted-by-contract rules s entry = then (finding s (entry .contract)) (λ contract. admitted-at rules s contract entry)
+
+-- all checks of an entry
+abbrev pub admitted : Meaning → State → Entry → Result ℕ DayFault
+admitted rules s entry =
+    then (within-limits entry) (λ _.
+    then (admitted-by-contract rules s entry) (λ until.
+    deny (OrdersFull when leb 256 (length (s .orders))) (Ok until)))
+
+-- the answer to an entry that came so far
+abbrev pub entered : Result ℕ DayFault → Answer → Answer
+entered (Ok until) answer = answer
+entered (Err fault) answer = Refused fault
+
+-- the day that an entry leaves
+abbrev pub after-entry : Result ℕ DayFault → State → Entry → State
+after-entry (Ok until) s entry = paired s (partner-on s entry) entry until
+after-entry (Err fault) s entry = s
 
 -- the day after an accepted call
 abbrev pub changed : Meaning → State → Call → State

@@ -48,7 +48,7 @@ terms contract = record {
   product = contract .product;
   figures = sheet (contract .figures);
   collar = collar-ends (contract .collar);
-  halted = contract .halted
+  halted = contract .halted;
 }
 
 -- a contract as it is listed
@@ -96,7 +96,7 @@ board-of s = record {
   orders = length (s .orders);
   entry = λ number. order-at s number .entry;
   until = λ number. order-at s number .until;
-  waits = λ number. is-waiting (order-at s number .status)
+  waits = λ number. is-waiting (order-at s number .status);
 }
 
 -- making a collar

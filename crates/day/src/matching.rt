@@ -1,5 +1,5 @@
 //! Orders that counter each other, and orders that lapse.
-ghost use Prim.Native.Nat.{ℕ};
+ghost use Prim.Native.Nat.{ℕ, _≤_};
 ghost use mathlib.Core.Path.{_≡_};
 ghost use mathlib.Core.List.{map};
 ghost use lib.ListN.{length};
@@ -51,7 +51,8 @@ fn meets(order: &Order, entry: &Entry) -> bool
 
 /// The number of the earliest waiting order that counters an entry, 0 for none.
 pub(crate) fn earliest_countering(orders: &[Order], incoming: &Entry) -> u64
-    ensures { λ r. ⌜ r ≡ first (meets-at (now (orders .entry)) (now (incoming .entry))) (length (now (orders .entry))) ⌝ }
+    ensures value { λ r. ⌜ r ≡ first (meets-at (now (orders .entry)) (now (incoming .entry))) (length (now (orders .entry))) ⌝ }
+    ensures bound { λ r. ⌜ r ≤ length (now (orders .entry)) ⌝ }
 {
     for i in 0..orders.len() {
         if meets(&orders[i], incoming) {
@@ -86,7 +87,11 @@ fn clocked(order: Order, to: u64) -> Order
     ensures { λ r. ⌜ r ≡ clocked to order ⌝ }
 {
     if is_due(&order, to) {
-        Order { entry: order.entry, until: order.until, status: Status::Lapsed }
+        Order {
+            entry: order.entry,
+            until: order.until,
+            status: Status::Lapsed,
+        }
     } else {
         order
     }

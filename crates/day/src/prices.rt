@@ -28,7 +28,10 @@ fn collar_limits(contract: &Contract) -> (u64, u64)
 }
 
 /// The prices on the rulebook's grid, inside its band and inside the collar.
-pub(crate) fn admissible_prices<R: Rulebook>(book: &R, contract: &Contract) -> Result<Limit<Limit<R::Grid>>, DayFault>
+pub(crate) fn admissible_prices<R: Rulebook>(
+    book: &R,
+    contract: &Contract,
+) -> Result<Limit<Limit<R::Grid>>, DayFault>
     ensures { λ r. ⌜ set-of (Grid·Grid .holds) r ≡ admissible-set (R·Rulebook .meaning (now (book .entry))) (terms (now (contract .entry))) ⌝ }
 {
     let band = book.band(contract.product, &contract.figures)?;
@@ -51,7 +54,11 @@ pub(crate) fn admits<G: Grid>(grid: &G, price: u64) -> bool
 }
 
 /// The nearest admissible price of a contract to a fraction.
-fn nearest_admissible<R: Rulebook>(book: &R, contract: &Contract, fraction: Fraction) -> Result<(u64, i64), DayFault>
+fn nearest_admissible<R: Rulebook>(
+    book: &R,
+    contract: &Contract,
+    fraction: Fraction,
+) -> Result<(u64, i64), DayFault>
     ensures { λ r. ⌜ as-price r ≡ asked-in (band-for (R·Rulebook .meaning (now (book .entry))) (terms (now (contract .entry)))) (terms (now (contract .entry)) .collar) (fraction .numerator) (fraction .divisor) ⌝ }
 {
     let prices = admissible_prices(book, contract)?;
@@ -59,7 +66,11 @@ fn nearest_admissible<R: Rulebook>(book: &R, contract: &Contract, fraction: Frac
 }
 
 /// The answer to a broker who asks a contract for a fraction.
-pub(crate) fn asked<R: Rulebook>(book: &R, contract: &Contract, fraction: Fraction) -> Result<(u64, i64), DayFault>
+pub(crate) fn asked<R: Rulebook>(
+    book: &R,
+    contract: &Contract,
+    fraction: Fraction,
+) -> Result<(u64, i64), DayFault>
     ensures { λ r. ⌜ as-price r ≡ asked-of (R·Rulebook .meaning (now (book .entry))) (terms (now (contract .entry))) (fraction .numerator) (fraction .divisor) ⌝ }
 {
     nearest_admissible(book, contract, fraction)

@@ -36,9 +36,10 @@ use Rattle.history.proofs.Steps.{Step, step, refused, lists, posts, collars, c
 pub fixed : (rules : Meaning) (h before : History) (call : Call) (answer : Answer) → Lawful rules h → Made h before call answer
     → Fixed rules before call answer × Lawful rules before
 fixed rules opened before call answer lawful made = absurd made
-fixed rules (after h made given) before call answer lawful (inl (same, is, gave)) =
-    (sym gave ∙ lawful .1 ∙ ap (λ (c : Call). ruled rules h c) is ∙ ap (λ (g : History). ruled rules g call) same,
-     subst (Lawful rules) same (lawful .0))
+fixed rules (after h made given) before call answer lawful (inl (same, is, gave)) = (
+  sym gave ∙ lawful .1 ∙ ap (λ (c : Call). ruled rules h c) is ∙ ap (λ (g : History). ruled rules g call) same,
+  subst (Lawful rules) same (lawful .0),
+)
 fixed rules (after h made given) before call answer lawful (inr earlier) = fixed rules h before call answer (lawful .0) earlier
 
 -- a collar lies from 1 to 220,000,000,000 pips
@@ -87,11 +88,11 @@ collared rules (after h call answer) contract lawful =
 inside-prices : (ends : Option (ℕ × ℕ)) (set : PriceSet) → Collared ends → Prices (inside-collar ends set)
 inside-prices None set within = record {
   positive = λ price in-set. omega (arith, between-parts 1000 last-end set price in-set .1);
-  bounded = λ price in-set. omega (arith, between-parts 1000 last-end set price in-set .2)
+  bounded = λ price in-set. omega (arith, between-parts 1000 last-end set price in-set .2);
 }
 inside-prices (Some (low, high)) set within = record {
   positive = λ price in-set. omega (arith, between-parts (1000 * low) (1000 * high) set price in-set .1, within .0);
-  bounded = λ price in-set. omega (arith, between-parts (1000 * low) (1000 * high) set price in-set .2, within .1)
+  bounded = λ price in-set. omega (arith, between-parts (1000 * low) (1000 * high) set price in-set .2, within .1);
 }
 
 -- the answer of an ask, by what the search for the nearest found
@@ -128,5 +129,5 @@ asked-right rules h lawful before contract n d answer prices made fraction there
     let second = passed ContractNotListed (unlisted (board rules before) contract) last answer there first in
     by-nearest rules before contract n d found answer
     (closest-is-nearest (admissible rules before contract) n d
-      (band-prices rules before contract prices (band-now rules before contract) (collar before contract) band (collared rules before contract earlier)))
+    (band-prices rules before contract prices (band-now rules before contract) (collar before contract) band (collared rules before contract earlier)))
     (posted rules before contract n d prices (band-now rules before contract) answer band second)

@@ -19,25 +19,27 @@ pub record Found (test : ℕ → Bool) (n r : ℕ) : Type 0 where
   pub least : (k : ℕ) → 1 ≤ k → k < r → test k ≡ false
 
 up-to : (test : ℕ → Bool) (n : ℕ) → ((k : ℕ) → 1 ≤ k → k ≤ n → test k ≡ false) → test (suc n) ≡ false →
-  (k : ℕ) → 1 ≤ k → k ≤ suc n → test k ≡ false
+    (k : ℕ) → 1 ≤ k → k ≤ suc n → test k ≡ false
 up-to test n none last k low high =
-  elim (cases-lt n k) [
-    inl more ↦ (let e : k ≡ suc n = omega arith in rw e last)
-  | inr less ↦ none k low less ]
+    elim (cases-lt n k) [
+      | inl more ↦ (let e : k ≡ suc n = omega arith in rw e last)
+      | inr less ↦ none k low less
+    ]
 
 step : (test : ℕ → Bool) (n r : ℕ) → Nothing test n r ⊎ Found test n r →
-  Nothing test (suc n) (cond (eqb r 0) (cond (test (suc n)) (suc n) 0) r) ⊎ Found test (suc n) (cond (eqb r 0) (cond (test (suc n)) (suc n) 0) r)
+    Nothing test (suc n) (cond (eqb r 0) (cond (test (suc n)) (suc n) 0) r) ⊎ Found test (suc n) (cond (eqb r 0) (cond (test (suc n)) (suc n) 0) r)
 step test n r (inl no-one) =
-  let e : cond (eqb r 0) (cond (test (suc n)) (suc n) 0) r ≡ cond (test (suc n)) (suc n) 0 = cond-true (eqb r 0) _ r (eq-eqb r 0 (no-one .zero-is)) in
-  rw e
-  (elim (cases-bool (test (suc n))) [
-     inl t ↦ rw (cond-true (test (suc n)) (suc n) 0 t)
-       (inr (record { low = omega arith; high = omega arith; passes = t; least = λ k l h. no-one .fails k l (omega arith) }))
-   | inr f ↦ rw (cond-false (test (suc n)) (suc n) 0 f)
-       (inl (record { zero-is = refl; fails = up-to test n (no-one .fails) f })) ])
+    let e : cond (eqb r 0) (cond (test (suc n)) (suc n) 0) r ≡ cond (test (suc n)) (suc n) 0 = cond-true (eqb r 0) _ r (eq-eqb r 0 (no-one .zero-is)) in
+    rw e
+    (elim (cases-bool (test (suc n))) [
+      | inl t ↦ rw (cond-true (test (suc n)) (suc n) 0 t)
+          (inr (record { low = omega arith; high = omega arith; passes = t; least = λ k l h. no-one .fails k l (omega arith) }))
+      | inr f ↦ rw (cond-false (test (suc n)) (suc n) 0 f)
+          (inl (record { zero-is = refl; fails = up-to test n (no-one .fails) f }))
+    ])
 step test n r (inr one) =
-  let e : cond (eqb r 0) (cond (test (suc n)) (suc n) 0) r ≡ r = cond-false (eqb r 0) _ r (ne-eqb r 0 (λ z. omega (arith, one .low))) in
-  rw e (inr (record { low = one .low; high = omega (arith, one .high); passes = one .passes; least = one .least }))
+    let e : cond (eqb r 0) (cond (test (suc n)) (suc n) 0) r ≡ r = cond-false (eqb r 0) _ r (ne-eqb r 0 (λ z. omega (arith, one .low))) in
+    rw e (inr (record { low = one .low; high = omega (arith, one .high); passes = one .passes; least = one .least }))
 
 pub first-is : (test : ℕ → Bool) (n : ℕ) → Nothing test n (first test n) ⊎ Found test n (first test n)
 unfolding first
@@ -60,17 +62,18 @@ first-stays test n r e p = cond-false (eqb (first test n) 0) _ _ (ne-eqb _ 0 (λ
 pub first-there : (test : ℕ → Bool) (n m : ℕ) → first test n ≡ 0 → test (suc n) ≡ true → n < m → first test m ≡ suc n
 first-there test n zero z t u = absurd (omega arith)
 first-there test n (suc m) z t u =
-  elim (cases-lt n m) [
-    inl less ↦ first-stays test m (suc n) (first-there test n m z t less) (omega arith)
-  | inr more ↦ (let e : m ≡ n = omega arith in rw e (first-at test n z t)) ]
+    elim (cases-lt n m) [
+      | inl less ↦ first-stays test m (suc n) (first-there test n m z t less) (omega arith)
+      | inr more ↦ (let e : m ≡ n = omega arith in rw e (first-at test n z t))
+    ]
 
 pub first-same : (f g : ℕ → Bool) (n : ℕ) → ((k : ℕ) → 1 ≤ k → k ≤ n → f k ≡ g k) → first f n ≡ first g n
 unfolding first
 first-same f g zero e = refl
 first-same f g (suc n) e =
-  let i = first-same f g n (λ k l u. e k l (omega arith)) in
-  let s = e (suc n) (omega arith) (omega arith) in
-  rw (i, s) refl
+    let i = first-same f g n (λ k l u. e k l (omega arith)) in
+    let s = e (suc n) (omega arith) (omega arith) in
+    rw (i, s) refl
 
 pub many-on : (test : ℕ → Bool) (n : ℕ) → test (suc n) ≡ false → how-many test (suc n) ≡ how-many test n
 unfolding how-many
@@ -84,6 +87,6 @@ pub many-same : (f g : ℕ → Bool) (n : ℕ) → ((k : ℕ) → 1 ≤ k → k 
 unfolding how-many
 many-same f g zero e = refl
 many-same f g (suc n) e =
-  let i = many-same f g n (λ k l u. e k l (omega arith)) in
-  let s = e (suc n) (omega arith) (omega arith) in
-  rw (i, s) refl
+    let i = many-same f g n (λ k l u. e k l (omega arith)) in
+    let s = e (suc n) (omega arith) (omega arith) in
+    rw (i, s) refl

@@ -54,7 +54,7 @@ waits-parts rules h k is =
       alone = eqb-true (order h k .partner) 0 (b .0);
       free = not-true (taken h k) (c .0);
       kept = not-true (withdrawn h k) (d .0);
-      time = ltb-true (minute h) (ends rules h k) (d .1)
+      time = ltb-true (minute h) (ends rules h k) (d .1);
     }
 
 pub waits-from : (rules : Meaning) (h : History) (k : ℕ) → Waiting rules h k → waits rules h k ≡ true
@@ -135,7 +135,7 @@ module _ (rules : Meaning) (h : History) where
         number = number;
         is = cond-true (eqb k (suc (orders h))) _ _ (eq-eqb k (suc (orders h)) number);
         took = or-left (eqb (earliest rules h entry) (earliest rules h entry)) _ (eq-eqb (earliest rules h entry) (earliest rules h entry) refl);
-        fit = fit
+        fit = fit;
       }
   new-order call answer (withdraws j participant) k more most = absurd (omega arith)
 
@@ -151,7 +151,7 @@ module _ (rules : Meaning) (h : History) where
         alone = sym (ap (λ (o : Order). o .partner) same) ∙ w .alone;
         free = taken-back h call answer k (w .free);
         kept = or-parts _ (withdrawn h k) (w .kept) .1;
-        time = omega (arith, w .time, end, minute-on call answer s)
+        time = omega (arith, w .time, end, minute-on call answer s);
       })
 
 -- to counter is mutual, and nothing counters itself
@@ -188,7 +188,7 @@ counter-parts one other is =
       quantity = eqb-true _ _ (r .0);
       sides = s .0;
       there = eqb-true _ _ (t .0);
-      back = eqb-true _ _ (t .1)
+      back = eqb-true _ _ (t .1);
     }
 
 pub counter-from : (one other : Entry) → Countering one other → counters one other ≡ true
@@ -210,7 +210,7 @@ counter-flip one other no-counter =
             quantity = sym (c .quantity);
             sides = opposite-sym (one .side) (other .side) ∙ c .sides;
             there = c .back;
-            back = c .there
+            back = c .there;
           }))))
       | inr is ↦ is
     ]

@@ -105,7 +105,7 @@ trade-old : (rules : Meaning) (h : History) (call : Call) (answer : Answer) → 
 trade-old rules h call answer s j k old t = record {
   accepted = known-from h k (known-parts (after h call answer) k (t .accepted) .low) old;
   named = sym (ap (λ (o : Order). o .partner) (same-order rules h call answer s k old)) ∙ t .named;
-  somebody = t .somebody
+  somebody = t .somebody;
 }
 
 -- the earlier order of a trade is taken
@@ -142,10 +142,10 @@ partner rules h call answer j k new t =
       counter = both .1;
       least = λ i less waiting.
           elim (and-cases (waits rules h i) (counters (order h i .entry) (new .entry))
-            (found .least i (known-parts h i (waits-parts rules h i waiting .there) .low) less)) [
+          (found .least i (known-parts h i (waits-parts rules h i waiting .there) .low) less)) [
             | inl idle ↦ absurd (both-ways (waits rules h i) idle waiting)
             | inr apart ↦ apart
-          ]
+          ];
     }
 
 joined-old : (rules : Meaning) (h : History) (call : Call) (answer : Answer) → Step rules h call answer → (j k : ℕ) → k ≤ orders h
@@ -163,7 +163,7 @@ joined-old rules h call answer s j k old q =
           rw (z, y) (q .earliest i less (rw y at waiting)));
       at-a-price = rw y (q .at-a-price);
       was-open = rw y (q .was-open);
-      unhalted = rw y (q .unhalted)
+      unhalted = rw y (q .unhalted);
     }
 
 joined-new : (rules : Meaning) (h : History) (call : Call) (answer : Answer) → Step rules h call answer → (j k : ℕ)
@@ -182,7 +182,7 @@ joined-new rules h call answer s j k new t =
           rw (z, y) (q .least i less (rw y at waiting)));
       at-a-price = rw y (new .fit .admitted);
       was-open = rw y (new .fit .opens);
-      unhalted = rw y (new .fit .runs)
+      unhalted = rw y (new .fit .runs);
     }
 
 joined : (rules : Meaning) (h : History) → Lawful rules h → (j k : ℕ) → Trade h j k → Joined rules h j k
@@ -243,5 +243,5 @@ law rules h lawful = record {
   once = once rules h lawful;
   none-left = none-left rules h lawful;
   withdrawable = withdrawable rules h;
-  in-hours = λ k waiting. waits-parts rules h k waiting .time
+  in-hours = λ k waiting. waits-parts rules h k waiting .time;
 }

@@ -40,7 +40,7 @@ board rules h = record {
   orders = orders h;
   entry = λ k. order h k .entry;
   until = ends rules h;
-  waits = waits rules h
+  waits = waits rules h;
 }
 
 -- what the rulebook says of a contract's prices

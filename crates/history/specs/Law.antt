@@ -31,7 +31,7 @@ abbrev pub Asked-right : Meaning → History → ℕ → ℕ → ℕ → Answer 
 Asked-right rules h contract n d answer =
     ((answer ≡ Refused NoAdmissiblePrice) × ((price : ℕ) → price among admissible rules h contract → ⊥))
     ⊎ ((best : ℕ) × (answer ≡ Price best (signed-distance n d best)) × (best among admissible rules h contract)
-      × ((price : ℕ) → price among admissible rules h contract → (price ≡ best → ⊥) → Worse n d price best))
+    × ((price : ℕ) → price among admissible rules h contract → (price ≡ best → ⊥) → Worse n d price best))
 
 -- two orders are a trade: the answer of the later names the earlier as its partner
 pub record Trade (h : History) (earlier later : ℕ) : Type 0 where

@@ -30,7 +30,6 @@ use Rattle.history.specs.Board.{Board, board, band-on, admissible-on, closing-
 
 infixr 20 _otherwise_
 infix 25 _when_
-
 -- a fault, where its ground applies
 abbrev pub _when_ : DayFault → Bool → Option DayFault
 fault when ground = cond ground (Some fault) None
@@ -70,50 +69,50 @@ priced (Some (price, distance)) = Priced price distance
 -- the first refusal that applies, or else what the call does
 abbrev pub ruled-on : Meaning → Board → Call → Answer
 ruled-on rules b (List product) =
-  refuse (by-the-book (hours-of rules product)) otherwise
-  refuse (ContractsFull when leb 32 (b .listed)) otherwise
-  Listed (suc (b .listed))
+    refuse (by-the-book (hours-of rules product)) otherwise
+    refuse (ContractsFull when leb 32 (b .listed)) otherwise
+    Listed (suc (b .listed))
 ruled-on rules b (Post contract letter value) =
-  refuse (figure-fault (letter-named letter) value) otherwise
-  refuse (ContractNotListed when unlisted b contract) otherwise
-  Done
+    refuse (figure-fault (letter-named letter) value) otherwise
+    refuse (ContractNotListed when unlisted b contract) otherwise
+    Done
 ruled-on rules b (Collar contract low high) =
-  refuse (CollarOutsideLimits when no-collar low high) otherwise
-  refuse (ContractNotListed when unlisted b contract) otherwise
-  Done
+    refuse (CollarOutsideLimits when no-collar low high) otherwise
+    refuse (ContractNotListed when unlisted b contract) otherwise
+    Done
 ruled-on rules b (Clock to) =
-  refuse (MinuteOverLimit when ltb 1800 to) otherwise
-  refuse (MinuteBeforePresent when ltb to (b .minute)) otherwise
-  Lapsed (how-many (lapses-on b to) (b .orders))
+    refuse (MinuteOverLimit when ltb 1800 to) otherwise
+    refuse (MinuteBeforePresent when ltb to (b .minute)) otherwise
+    Lapsed (how-many (lapses-on b to) (b .orders))
 ruled-on rules b (Halt contract) =
-  refuse (ContractNotListed when unlisted b contract) otherwise
-  refuse (HaltUnchanged when b .halted contract) otherwise
-  Done
+    refuse (ContractNotListed when unlisted b contract) otherwise
+    refuse (HaltUnchanged when b .halted contract) otherwise
+    Done
 ruled-on rules b (Lift contract) =
-  refuse (ContractNotListed when unlisted b contract) otherwise
-  refuse (HaltUnchanged when not (b .halted contract)) otherwise
-  Done
+    refuse (ContractNotListed when unlisted b contract) otherwise
+    refuse (HaltUnchanged when not (b .halted contract)) otherwise
+    Done
 ruled-on rules b (Ask contract n d) =
-  refuse (Price FractionOutsideLimits when not (is-fraction n d)) otherwise
-  refuse (ContractNotListed when unlisted b contract) otherwise
-  refuse (by-the-book (band-on rules b contract)) otherwise
-  priced (closest (admissible-on rules b contract) n d)
+    refuse (Price FractionOutsideLimits when not (is-fraction n d)) otherwise
+    refuse (ContractNotListed when unlisted b contract) otherwise
+    refuse (by-the-book (band-on rules b contract)) otherwise
+    priced (closest (admissible-on rules b contract) n d)
 ruled-on rules b (Enter entry) =
-  refuse (EntryOutsideLimits Quantity when outside 10_000 (entry .quantity)) otherwise
-  refuse (EntryOutsideLimits Participant when outside 9_999 (entry .participant)) otherwise
-  refuse (EntryOutsideLimits Counterparty when outside 9_999 (entry .counterparty)) otherwise
-  refuse (ContractNotListed when unlisted b (entry .contract)) otherwise
-  refuse (by-the-book (band-on rules b (entry .contract))) otherwise
-  refuse (NotOpen when not (isSome (closing-on rules b (entry .contract)))) otherwise
-  refuse (Halted when b .halted (entry .contract) && rules .halt-binds) otherwise
-  refuse (PriceNotAdmissible when not (admissible-on rules b (entry .contract) (entry .price))) otherwise
-  refuse (OrdersFull when leb 256 (b .orders)) otherwise
-  Ordered (suc (b .orders)) (first (meets-on b entry) (b .orders))
+    refuse (EntryOutsideLimits Quantity when outside 10_000 (entry .quantity)) otherwise
+    refuse (EntryOutsideLimits Participant when outside 9_999 (entry .participant)) otherwise
+    refuse (EntryOutsideLimits Counterparty when outside 9_999 (entry .counterparty)) otherwise
+    refuse (ContractNotListed when unlisted b (entry .contract)) otherwise
+    refuse (by-the-book (band-on rules b (entry .contract))) otherwise
+    refuse (NotOpen when not (isSome (closing-on rules b (entry .contract)))) otherwise
+    refuse (Halted when b .halted (entry .contract) && rules .halt-binds) otherwise
+    refuse (PriceNotAdmissible when not (admissible-on rules b (entry .contract) (entry .price))) otherwise
+    refuse (OrdersFull when leb 256 (b .orders)) otherwise
+    Ordered (suc (b .orders)) (first (meets-on b entry) (b .orders))
 ruled-on rules b (Withdraw k participant) =
-  refuse (NoSuchOrder when outside (b .orders) k) otherwise
-  refuse (AnotherParticipants when not (eqb participant (b .entry k .participant))) otherwise
-  refuse (NotWaiting when not (b .waits k)) otherwise
-  Done
+    refuse (NoSuchOrder when outside (b .orders) k) otherwise
+    refuse (AnotherParticipants when not (eqb participant (b .entry k .participant))) otherwise
+    refuse (NotWaiting when not (b .waits k)) otherwise
+    Done
 
 -- what a call is answered after a history
 abbrev pub ruled : Meaning → History → Call → Answer

@@ -116,5 +116,5 @@ within-limits figures = record {
       fits-parts (rank letter - 1) value (ap (fits (rank letter - 1)) (sym is) ∙ figures .within (rank letter - 1)) .0;
   bounded = λ letter value is.
       subst (λ (top : ℕ). value ≤ top) (sym (same-most letter))
-      (fits-parts (rank letter - 1) value (ap (fits (rank letter - 1)) (sym is) ∙ figures .within (rank letter - 1)) .1)
+      (fits-parts (rank letter - 1) value (ap (fits (rank letter - 1)) (sym is) ∙ figures .within (rank letter - 1)) .1);
 }

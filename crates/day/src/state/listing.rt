@@ -31,7 +31,12 @@ impl<R: Rulebook> Day<R> {
         if listed >= 32 {
             return Err(DayFault::ContractsFull);
         }
-        self.add(Contract { product, figures: Figures::blank(), collar: None, halted: false });
+        self.add(Contract {
+            product,
+            figures: Figures::blank(),
+            collar: None,
+            halted: false,
+        });
         Ok(listed as u64 + 1)
     }
 

@@ -15,6 +15,11 @@ impl<R: Rulebook + Drop> Day<R> {
     {
         let contracts = Vec::with_capacity(heap, 32)?;
         let orders = Vec::with_capacity(heap, 256)?;
-        Ok(Day { book, minute: 0, contracts, orders })
+        Ok(Day {
+            book,
+            minute: 0,
+            contracts,
+            orders,
+        })
     }
 }

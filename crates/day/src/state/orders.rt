@@ -1,5 +1,5 @@
 //! The orders: by their numbers from 1, changed one by one or all together.
-ghost use Prim.Native.Nat.{_<_};
+ghost use Prim.Native.Nat.{_<_, _≤_};
 ghost use mathlib.Core.Path.{_≡_};
 ghost use mathlib.Core.Bool.{false};
 ghost use lib.ListN.{length};
@@ -37,7 +37,8 @@ impl<R: Rulebook> Day<R> {
 
     /// The number of the earliest waiting order that counters an entry, 0 for none.
     pub(super) fn partner(&self, incoming: &Entry) -> u64
-        ensures { λ r. ⌜ r ≡ partner-on (view (now (self .entry))) (now (incoming .entry)) ⌝ }
+        ensures value { λ r. ⌜ r ≡ partner-on (view (now (self .entry))) (now (incoming .entry)) ⌝ }
+        ensures bound { λ r. ⌜ r ≤ vec-len (now (self .entry) .orders) ⌝ }
     {
         earliest_countering(self.orders.as_slice(), incoming)
     }

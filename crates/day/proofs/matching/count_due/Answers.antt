@@ -19,14 +19,16 @@ pub loop-i-again : need.loop-i-again
 loop-i-again c =
     let next = ap (λ (o : Order). is-due (c .args .to) o) (order-next (c .args .orders .now) (c .loop-i .i)) in
     elim (c .if-is-due .came) [
-      | then-is-due w ↦
-          (w .count-is ∙ add-one (c .loop-i .count) ∙ ap suc (c .loop-i .inv .0)
+      | then-is-due w ↦ (
+        w .count-is ∙ add-one (c .loop-i .count) ∙ ap suc (c .loop-i .inv .0)
             ∙ sym (many-at _ (c .loop-i .i) (next ∙ sym (c .is-due .ensures) ∙ w .if-is-due .taken))
             ∙ ap (λ (k : ℕ). how-many (due-at (c .args .orders .now) (c .args .to)) k) (sym (add-one (c .loop-i .i))),
-          omega (arith, w .count-is, c .loop-i .inv .1))
-      | else-is-due w ↦
-          (w .count-is ∙ c .loop-i .inv .0
+        omega (arith, w .count-is, c .loop-i .inv .1),
+      )
+      | else-is-due w ↦ (
+        w .count-is ∙ c .loop-i .inv .0
             ∙ sym (many-on _ (c .loop-i .i) (next ∙ sym (c .is-due .ensures) ∙ w .if-is-due .left))
             ∙ ap (λ (k : ℕ). how-many (due-at (c .args .orders .now) (c .args .to)) k) (sym (add-one (c .loop-i .i))),
-          omega (arith, w .count-is, c .loop-i .inv .1))
+        omega (arith, w .count-is, c .loop-i .inv .1),
+      )
     ]

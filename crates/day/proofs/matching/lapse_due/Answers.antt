@@ -14,7 +14,7 @@ loop-i-again c =
     let within : c .loop-i .i < length (c .loop-i .orders) = omega arith in
     ap (set (c .loop-i .orders) (c .loop-i .i)) (c .clocked .ensures)
     ∙ map-over-more (clocked (c .args .to)) (c .args .orders .now) (c .loop-i .orders) (c .loop-i .i) _ (c .loop-i-test .taken) (c .loop-i .inv)
-      (getD-default (c .loop-i .orders) (c .loop-i .i) _ _ within)
+    (getD-default (c .loop-i .orders) (c .loop-i .i) _ _ within)
 
 pub returns : need.returns
 returns c =

@@ -11,7 +11,7 @@ use Rattle.day.proofs.numbered.replace.Needs as need
 pub offset-contracts-number : need.offset-contracts-number
 offset-contracts-number c =
     let below : c .args .number - 1 < length (c .args .contracts .now) =
-        omega (arith, inside (length (map terms (c .args .contracts .now))) (c .args .number) (c .pre), length-map (c .args .contracts .now) terms) in
+    omega (arith, inside (length (map terms (c .args .contracts .now))) (c .args .number) (c .pre), length-map (c .args .contracts .now) terms) in
     search needs
 
 pub index-contracts-number : need.index-contracts-number

@@ -10,5 +10,5 @@ returns g c =
     let changed = ap (map terms) (c .push-reserved .ensures .items) ∙ map-push terms (vec-items (c .args .self .now .contracts)) (c .args .contract) in
     record {
       after = ap (λ (list : List Terms). record { minute = c .args .self .now .minute; contracts = list; orders = vec-items (c .args .self .now .orders) }) changed;
-      book = refl
+      book = refl;
     }

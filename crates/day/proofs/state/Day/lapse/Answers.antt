@@ -14,5 +14,5 @@ returns g c =
     let changed = held ∙ c .lapse-due .ensures ∙ ap (map (clocked (c .args .to))) (c .as-mut-slice .ensures .value) in
     record {
       after = ap (λ (list : List Order). record { minute = c .args .self .now .minute; contracts = map terms (vec-items (c .args .self .now .contracts)); orders = list }) changed;
-      book = refl
+      book = refl;
     }

@@ -8,5 +8,5 @@ use Rattle.day.proofs.state.Day.listed.Needs as need
 pub returns : need.returns
 returns g c = record {
   value = ap length (c .as-slice .ensures .value) ∙ sym (length-map (vec-items (c .args .self .now .contracts)) terms);
-  held = c .as-slice .ensures .len
+  held = c .as-slice .ensures .len;
 }

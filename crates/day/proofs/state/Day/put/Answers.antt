@@ -17,5 +17,5 @@ returns g c =
     let changed = held ∙ c .replace .ensures ∙ ap (λ (list : List Contract). set (map terms list) (c .args .contract - 1) (terms (c .args .changed))) (c .as-mut-slice .ensures .value) in
     record {
       after = ap (λ (list : List Terms). record { minute = c .args .self .now .minute; contracts = list; orders = vec-items (c .args .self .now .orders) }) changed;
-      book = refl
+      book = refl;
     }
