@@ -1,7 +1,7 @@
 -- What the grid and the rulebook owe, as the order check and the pile of limits use it.
 use Prim.Native.Nat.{ℕ, _≤_}
-use mathlib.Core.Path.{_≡_, refl, sym, ap, subst, _∙_}
-use mathlib.Core.Bool.{Bool, true, false, cond, not}
+use mathlib.Core.Path.{_≡_, refl, sym, subst, _∙_}
+use mathlib.Core.Bool.{cond}
 use lib.IntN.{ℤ}
 use native.Mathlib.Omega.{arith}
 use Rattle.std.specs.declared.option.Option.{Option}
@@ -9,8 +9,7 @@ use Rattle.std.specs.declared.result.Result.{Result}
 use Rattle.std.specs.declared.result.Result.the-variants.{Ok, Err}
 use Rattle.price.specs.Sets.{PriceSet, Prices, last-end}
 use Rattle.std.proofs.shelf.Tests.{cond-true, and-from, le-leb}
-use Rattle.price.specs.Makers.{fraction, limit}
-use Rattle.price.specs.declared.PriceFault.the-variants.{FractionOutsideLimits}
+use Rattle.price.specs.Makers.{limit}
 use Rattle.price.specs.Questions.{Nearest}
 use Rattle.price.specs.Closest.{closest}
 use Rattle.price.proofs.Search.{closest-is-nearest}
@@ -19,12 +18,8 @@ use Rattle.rulebook.specs.declared.Figures.{Figures}
 use Rattle.rulebook.specs.Meaning.{Prices-in-band, Meaning, prices-of, Sound}
 use Rattle.rulebook.specs.Sheets.{sheet}
 use Rattle.rulebook.proofs.Sheet.{within-limits}
-use Rattle.history.specs.declared.Answer.{Answer}
-use Rattle.history.specs.declared.DayFault.{DayFault}
-use Rattle.history.specs.declared.DayFault.the-variants.{Price as Fraction, ContractNotListed}
-use Rattle.history.specs.Prices.{admissible-in, is-fraction}
-use Rattle.history.specs.Rulings.{_when_, refuse, by-the-book, priced}
-use Rattle.day.specs.State.{Terms, asked-in, asked-of}
+use Rattle.history.specs.Rulings.{quoted}
+use Rattle.day.specs.State.{asked-in}
 
 pub found-nearest : (set : PriceSet) (n d : ℕ) (found : Option (ℕ × ℤ)) → Prices set → found ≡ closest set n d → Nearest set n d found
 found-nearest set n d found prices is = subst (Nearest set n d) (sym is) (closest-is-nearest set n d prices)
@@ -45,30 +40,7 @@ never-refused {G} grid low high number refused low-fits high-fits =
     let z : _≡_ {A = ℕ} 0 1 = cc in omega arith
 
 -- the two ways to put the answer to an ask are one
-pub asked-same : (band : Result Prices-in-band RuleFault) (collar : Option (ℕ × ℕ)) (n d : ℕ)
-    → asked-in band collar n d ≡ refuse (by-the-book band) (priced (closest (admissible-in band collar) n d))
+pub asked-same : (band : Result Prices-in-band RuleFault) (collar : Option (ℕ × ℕ)) (n d : ℕ) → asked-in band collar n d ≡ quoted band collar n d
+unfolding quoted
 asked-same (Ok prices) collar n d = refl
 asked-same (Err fault) collar n d = refl
-
--- an ask that passed its checks is answered by the contract that was found
-found-through : (rules : Meaning) (n d : ℕ) (missing : Bool) (contract listed : Terms) (answer : Answer)
-    → _≡_ {A = Result Terms DayFault} (Ok contract) (cond missing (Err ContractNotListed) (Ok listed)) → answer ≡ asked-of rules contract n d
-    → answer ≡ refuse (ContractNotListed when missing) (asked-of rules listed n d)
-found-through rules n d true contract listed answer found given = let z : _≡_ {A = ℕ} 0 1 = cc in absurd (omega arith)
-found-through rules n d false contract listed answer found given =
-    let same : contract ≡ listed = cc in given ∙ ap (λ (t : Terms). asked-of rules t n d) same
-
-pub ask-through : (rules : Meaning) (n d n′ d′ : ℕ) (missing : Bool) (contract listed : Terms) (answer : Answer)
-    → Ok (n′, d′) ≡ fraction n d → Ok contract ≡ cond missing (Err ContractNotListed) (Ok listed) → answer ≡ asked-of rules contract n′ d′
-    → answer ≡ refuse (Fraction FractionOutsideLimits when not (is-fraction n d)) (refuse (ContractNotListed when missing) (asked-of rules listed n d))
-ask-through rules n d n′ d′ missing contract listed answer made found given =
-    within-through (is-fraction n d) made
-  where
-    within-through : (within : Bool) → _≡_ {A = Result (ℕ × ℕ) ℕ} (Ok (n′, d′)) (cond within (Ok (n, d)) (Err 11))
-        → answer ≡ refuse (Fraction FractionOutsideLimits when not within) (refuse (ContractNotListed when missing) (asked-of rules listed n d))
-    within-through true is =
-        let pair : _≡_ {A = ℕ × ℕ} (n′, d′) (n, d) = cc in
-        let same-n : n′ ≡ n = ap (λ (p : ℕ × ℕ). p .0) pair in
-        let same-d : d′ ≡ d = ap (λ (p : ℕ × ℕ). p .1) pair in
-        found-through rules n d missing contract listed answer found (given ∙ (λ i. asked-of rules contract (same-n i) (same-d i)))
-    within-through false is = let z : _≡_ {A = ℕ} 0 1 = cc in absurd (omega arith)

@@ -24,7 +24,7 @@ use Rattle.history.specs.declared.Answer.the-variants.{Refused}
 use Rattle.history.specs.Prices.{inside-collar, admissible-in}
 use Rattle.history.specs.Orders.{no-entry}
 use Rattle.history.specs.Board.{Board}
-use Rattle.history.specs.Rulings.{refuse, by-the-book, priced, no-collar}
+use Rattle.history.specs.Rulings.{priced, no-collar}
 use Rattle.day.specs.declared.collar.Collar.{Collar}
 use Rattle.day.specs.declared.contract.Contract.{Contract}
 use Rattle.day.specs.declared.order.Status.{Status}
@@ -130,11 +130,7 @@ band-for rules contract = prices-of rules (contract .product) (contract .figures
 abbrev pub admissible-set : Meaning → Terms → Result PriceSet DayFault
 admissible-set rules contract = in-collar (contract .collar) (band-for rules contract)
 
--- the answer to a broker who asks for n / d: by what the rulebook says, and as the rulings put it
+-- the answer to a broker who asks for n / d, by what the rulebook says
 abbrev pub asked-in : Result Prices-in-band RuleFault → Option (ℕ × ℕ) → ℕ → ℕ → Answer
 asked-in (Ok prices) collar n d = priced (closest (admissible-in (Ok prices) collar) n d)
 asked-in (Err fault) collar n d = Refused (Rule fault)
-
-abbrev pub asked-of : Meaning → Terms → ℕ → ℕ → Answer
-asked-of rules contract n d =
-    refuse (by-the-book (band-for rules contract)) (priced (closest (admissible-in (band-for rules contract) (contract .collar)) n d))

@@ -2,8 +2,9 @@
 ghost use Prim.Native.Nat.{ℕ, _*_, _≤_};
 ghost use mathlib.Core.Path.{_≡_};
 ghost use Rattle.price.specs.Sets.{last-end};
+ghost use Rattle.history.specs.Rulings.{quoted};
 ghost use Rattle.day.specs.Calls.{as-price};
-ghost use Rattle.day.specs.State.{terms, collar-limits, set-of, band-for, admissible-set, asked-in, asked-of};
+ghost use Rattle.day.specs.State.{terms, collar-limits, set-of, band-for, admissible-set, asked-in};
 use super::contract::Contract;
 use history::DayFault;
 use history::DayFaultFromPrice;
@@ -71,7 +72,7 @@ pub(crate) fn asked<R: Rulebook>(
     contract: &Contract,
     fraction: Fraction,
 ) -> Result<(u64, i64), DayFault>
-    ensures { λ r. ⌜ as-price r ≡ asked-of (R·Rulebook .meaning (now (book .entry))) (terms (now (contract .entry))) (fraction .numerator) (fraction .divisor) ⌝ }
+    ensures { λ r. ⌜ as-price r ≡ quoted (band-for (R·Rulebook .meaning (now (book .entry))) (terms (now (contract .entry)))) (terms (now (contract .entry)) .collar) (fraction .numerator) (fraction .divisor) ⌝ }
 {
     nearest_admissible(book, contract, fraction)
 }

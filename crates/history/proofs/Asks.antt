@@ -28,7 +28,7 @@ use Rattle.history.specs.declared.faults.DayFault.the-variants.{Price as Fract
 use Rattle.history.specs.History.{History, opened, after, collar, collar-of}
 use Rattle.history.specs.Prices.{inside-collar, admissible-in, band-now, admissible, is-fraction}
 use Rattle.history.specs.Board.{board}
-use Rattle.history.specs.Rulings.{_when_, refuse, by-the-book, unlisted, no-collar, priced, ruled, Fixed, Lawful}
+use Rattle.history.specs.Rulings.{_when_, refuse, by-the-book, unlisted, no-collar, priced, quoted, ruled, Fixed, Lawful}
 use Rattle.history.specs.Law.{Made, Asked-right}
 use Rattle.history.proofs.Steps.{Step, step, refused, lists, posts, collars, clocks, halts, lifts, asks, enters, withdraws}
 
@@ -102,11 +102,11 @@ by-nearest rules h contract n d None answer near is = inl (is, near)
 by-nearest rules h contract n d (Some (best, signed)) answer near is =
     inr (best, is ∙ ap (λ (s : ℤ). Price best s) (near .1), near .0, near .2)
 
-posted : (rules : Meaning) (h : History) (contract n d : ℕ) (prices : Prices-in-band) (band : Result Prices-in-band RuleFault) (answer : Answer)
-    → band ≡ Ok prices → answer ≡ refuse (by-the-book band) (priced (closest (admissible rules h contract) n d))
-    → answer ≡ priced (closest (admissible rules h contract) n d)
-posted rules h contract n d prices (Ok said) answer is given = given
-posted rules h contract n d prices (Err fault) answer is given = let z : _≡_ {A = ℕ} 0 1 = cc in absurd (omega arith)
+posted : (rules : Meaning) (h : History) (contract n d : ℕ) (prices : Prices-in-band) (band : Result Prices-in-band RuleFault) (ends : Option (ℕ × ℕ)) (answer : Answer)
+    → band ≡ Ok prices → answer ≡ quoted band ends n d → answer ≡ priced (closest (admissible-in band ends) n d)
+unfolding quoted
+posted rules h contract n d prices (Ok said) ends answer is given = given
+posted rules h contract n d prices (Err fault) ends answer is given = let z : _≡_ {A = ℕ} 0 1 = cc in absurd (omega arith)
 
 band-prices : (rules : Meaning) (h : History) (contract : ℕ) (prices : Prices-in-band) (band : Result Prices-in-band RuleFault) (ends : Option (ℕ × ℕ))
     → band ≡ Ok prices → Collared ends → Prices (admissible-in band ends)
@@ -124,10 +124,10 @@ pub asked-right : (rules : Meaning) (h : History) → Lawful rules h → (before
 asked-right rules h lawful before contract n d answer prices made fraction there band =
     let (fixes, earlier) = fixed rules h before (Ask contract n d) answer lawful made in
     let found = closest (admissible rules before contract) n d in
-    let last = refuse (by-the-book (band-now rules before contract)) (priced found) in
+    let last = quoted (band-now rules before contract) (collar before contract) n d in
     let first = passed (Fraction FractionOutsideLimits) (not (is-fraction n d)) (refuse (ContractNotListed when unlisted (board rules before) contract) last) answer (not-from-true _ fraction) fixes in
     let second = passed ContractNotListed (unlisted (board rules before) contract) last answer there first in
     by-nearest rules before contract n d found answer
     (closest-is-nearest (admissible rules before contract) n d
     (band-prices rules before contract prices (band-now rules before contract) (collar before contract) band (collared rules before contract earlier)))
-    (posted rules before contract n d prices (band-now rules before contract) answer band second)
+    (posted rules before contract n d prices (band-now rules before contract) (collar before contract) answer band second)

@@ -9,7 +9,9 @@ use Rattle.std.specs.declared.option.Option.{Option}
 use Rattle.std.specs.declared.option.Option.the-variants.{Some, None}
 use Rattle.std.proofs.shelf.Tests.{ltb-false, not-false}
 use Rattle.price.specs.Closest.{closest}
-use Rattle.rulebook.specs.Meaning.{Meaning, hours-of}
+use Rattle.std.specs.declared.result.Result.{Result}
+use Rattle.rulebook.specs.declared.RuleFault.{RuleFault}
+use Rattle.rulebook.specs.Meaning.{Meaning, Prices-in-band, hours-of}
 use Rattle.history.specs.declared.calls.Entry.{Entry}
 use Rattle.history.specs.declared.calls.Call.{Call}
 use Rattle.history.specs.declared.calls.Call.the-variants.{List, Post, Collar, Clock, Halt, Lift, Ask, Enter, Withdraw}
@@ -20,10 +22,10 @@ use Rattle.history.specs.declared.faults.DayFault.{DayFault}
 use Rattle.history.specs.declared.faults.DayFault.the-variants.{Price as Fraction, MinuteOverLimit, CollarOutsideLimits, EntryOutsideLimits, ContractNotListed, ContractsFull, MinuteBeforePresent, HaltUnchanged, NotOpen, Halted, PriceNotAdmissible, OrdersFull, NoSuchOrder, AnotherParticipants, NotWaiting}
 use Rattle.price.specs.declared.PriceFault.the-variants.{FractionOutsideLimits}
 use Rattle.history.specs.History.{History, minute, letter-named}
-use Rattle.history.specs.Prices.{admissible, is-open, is-stopped, is-fraction}
+use Rattle.history.specs.Prices.{admissible-in, admissible, is-open, is-stopped, is-fraction}
 use Rattle.history.specs.Orders.{orders, earliest, how-many, first}
 use Rattle.history.specs.Board.{Board, board, band-on, admissible-on, closing-on, meets-on, lapses-on}
-use Rattle.history.specs.Rulings.{_when_, refuse, by-the-book, outside, unlisted, figure-fault, priced, no-collar, ruled}
+use Rattle.history.specs.Rulings.{_when_, refuse, by-the-book, outside, unlisted, figure-fault, priced, quoted, no-collar, ruled}
 
 -- what held of the day when an entry was accepted
 pub record Taken (rules : Meaning) (h : History) (entry : Entry) : Type 0 where
@@ -59,6 +61,13 @@ module _ (rules : Meaning) (h : History) where
   found contract n d None = refused _ _
   found contract n d (Some (price, distance)) = asks contract n d price distance
 
+  asked : (contract n d : ℕ) (band : Result Prices-in-band RuleFault) (ends : Option (ℕ × ℕ))
+      → Step rules h (Ask contract n d) (quoted band ends n d)
+  unfolding quoted
+  asked contract n d band ends =
+      or-else (Ask contract n d) (by-the-book band) (priced (closest (admissible-in band ends) n d))
+      (λ _. found contract n d (closest (admissible-in band ends) n d))
+
   abbrev b : Board
   b = board rules h
 
@@ -89,13 +98,9 @@ module _ (rules : Meaning) (h : History) where
       unless-when (Lift contract) ContractNotListed (unlisted b contract) last
       (λ _. unless-when _ HaltUnchanged (not (b .halted contract)) Done (λ _. lifts contract))
   view (Ask contract n d) =
-      let answer = priced (closest (admissible-on rules b contract) n d) in
-      let third = refuse (by-the-book (band-on rules b contract)) answer in
-      let second = refuse (ContractNotListed when unlisted b contract) third in
-      unless-when (Ask contract n d) (Fraction FractionOutsideLimits) (not (is-fraction n d)) second
-      (λ _. unless-when _ ContractNotListed (unlisted b contract) third
-      (λ _. or-else _ (by-the-book (band-on rules b contract)) answer
-      (λ _. found contract n d (closest (admissible-on rules b contract) n d))))
+      let last = quoted (band-on rules b contract) (b .collar contract) n d in
+      unless-when (Ask contract n d) (Fraction FractionOutsideLimits) (not (is-fraction n d)) (refuse (ContractNotListed when unlisted b contract) last)
+      (λ _. unless-when _ ContractNotListed (unlisted b contract) last (λ _. asked contract n d (band-on rules b contract) (b .collar contract)))
   view (Enter entry) =
       let contract = entry .contract in
       let answer = Ordered (suc (b .orders)) (first (meets-on b entry) (b .orders)) in

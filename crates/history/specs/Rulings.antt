@@ -14,7 +14,7 @@ use Rattle.price.specs.Closest.{closest}
 use Rattle.rulebook.specs.declared.Letter.{Letter}
 use Rattle.rulebook.specs.declared.FigureFault.the-variants.{UnknownLetter, ValueOverLimit}
 use Rattle.rulebook.specs.declared.RuleFault.{RuleFault}
-use Rattle.rulebook.specs.Meaning.{Meaning, hours-of}
+use Rattle.rulebook.specs.Meaning.{Meaning, Prices-in-band, hours-of}
 use Rattle.history.specs.declared.calls.Entry.{Entry}
 use Rattle.history.specs.declared.calls.Call.{Call}
 use Rattle.history.specs.declared.calls.Call.the-variants.{List, Post, Collar, Clock, Halt, Lift, Ask, Enter, Withdraw}
@@ -24,7 +24,7 @@ use Rattle.history.specs.declared.faults.EntryField.the-variants.{Quantity, Pa
 use Rattle.history.specs.declared.faults.DayFault.{DayFault}
 use Rattle.history.specs.declared.faults.DayFault.the-variants.{Price, Figure, Rule, MinuteOverLimit, CollarOutsideLimits, EntryOutsideLimits, ContractNotListed, ContractsFull, MinuteBeforePresent, HaltUnchanged, NoAdmissiblePrice, NotOpen, Halted, PriceNotAdmissible, OrdersFull, NoSuchOrder, AnotherParticipants, NotWaiting}
 use Rattle.history.specs.History.{History, opened, after, letter-named, takes}
-use Rattle.history.specs.Prices.{is-fraction}
+use Rattle.history.specs.Prices.{admissible-in, is-fraction}
 use Rattle.history.specs.Orders.{how-many, first}
 use Rattle.history.specs.Board.{Board, board, band-on, admissible-on, closing-on, meets-on, lapses-on}
 
@@ -66,6 +66,10 @@ abbrev pub priced : Option (ℕ × ℤ) → Answer
 priced None = Refused NoAdmissiblePrice
 priced (Some (price, distance)) = Priced price distance
 
+-- the nearest admissible price to n / d, where the rulebook has a band
+unfoldable pub quoted : Result Prices-in-band RuleFault → Option (ℕ × ℕ) → ℕ → ℕ → Answer
+quoted band ends n d = refuse (by-the-book band) (priced (closest (admissible-in band ends) n d))
+
 -- the first refusal that applies, or else what the call does
 abbrev pub ruled-on : Meaning → Board → Call → Answer
 ruled-on rules b (List product) =
@@ -95,8 +99,7 @@ ruled-on rules b (Lift contract) =
 ruled-on rules b (Ask contract n d) =
     refuse (Price FractionOutsideLimits when not (is-fraction n d)) otherwise
     refuse (ContractNotListed when unlisted b contract) otherwise
-    refuse (by-the-book (band-on rules b contract)) otherwise
-    priced (closest (admissible-on rules b contract) n d)
+    quoted (band-on rules b contract) (b .collar contract) n d
 ruled-on rules b (Enter entry) =
     refuse (EntryOutsideLimits Quantity when outside 10_000 (entry .quantity)) otherwise
     refuse (EntryOutsideLimits Participant when outside 9_999 (entry .participant)) otherwise
