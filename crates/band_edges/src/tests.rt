@@ -405,13 +405,15 @@ fn flexible_edges() -> Result<(), Fail> {
 #[test]
 fn compression_at_settlement() -> Result<(), Fail> {
     let figures = [0, 0, 0, 0, 0, 0, 0, 0, 0, 0, 0, 390_012_345, 0];
-    let row = Edges {
-        product: 2,
-        figures,
-        lowest: 390_012_345,
-        highest: 390_012_345,
-    };
-    check_edges(&Compression, &row)?;
+    for product in [1, 2] {
+        let row = Edges {
+            product,
+            figures,
+            lowest: 390_012_345,
+            highest: 390_012_345,
+        };
+        check_edges(&Compression, &row)?;
+    }
     let blank = Compression.band(1, &Figures::blank()).err();
     check_eq(blank, Some(RuleFault::LetterLacking(Letter::K)))
 }

@@ -11,14 +11,15 @@ use Rattle.std.specs.declared.result.Result.the-variants.{Ok, Err}
 use Rattle.std.proofs.shelf.Tests.{and-from, and-left, and-right, le-leb, lt-leb, eqb-true, eq-eqb, or-cases, or-left, or-right, both-ways}
 use Rattle.price.specs.Makers.{from-to}
 use Rattle.rulebook.specs.declared.Letter.{Letter}
+use Rattle.rulebook.specs.declared.Letter.the-variants.{K}
 use Rattle.rulebook.specs.declared.RuleFault.the-variants.{ProductAbsent}
 use Rattle.rulebook.specs.Letters.{rank, same}
 use Rattle.rulebook.specs.Meaning.{Product, Meaning, hours-of-product}
 use Rattle.rulebook.proofs.Lackings.{same-rank}
 use Rattle.books.specs.Exchange.{Measured-from, trading-on, last-traded, reference, theoretical, Rule, single-issue-rule, flexible-rule}
 use Rattle.books.specs.Rows.{centre-letter, is-swing, needs, row-product}
-use Rattle.books.specs.Books.{centre-of, written, product-of, product-in, single-issue, flexible}
-use Rattle.books.specs.Laws.{starting-letter, Moves, Names, Has-its-products, Books-have-their-products}
+use Rattle.books.specs.Books.{centre-of, written, product-of, product-in, single-issue, flexible, at-settlement, compression}
+use Rattle.books.specs.Laws.{starting-letter, Moves, Names, Has-its-products, Has-settlement-products, Books-have-their-products}
 
 same-to : (letter other : Letter) → same letter other ≡ true → letter ≡ other
 same-to letter other test = same-rank letter other (eqb-true (rank letter) (rank other) test)
@@ -87,8 +88,25 @@ module _ (last : ℕ) (rule : ℕ → Rule) where
         names-to (rule number) letter (subst (λ (p : Product). p .needs letter ≡ true) (sym (listed number (from-to 1 last number) product found)) need);
   }
 
+settles : (known : Bool) (product : Product) → cond known (Some at-settlement) None ≡ Some product → at-settlement ≡ product
+settles true product found = cc
+settles false product found = let z : _≡_ {A = ℕ} 0 1 = cc in absurd (omega arith)
+
+has-settlement-products : Has-settlement-products 2 compression
+has-settlement-products = record {
+  present = λ number least most.
+      ap (λ (known : Bool). hours-of-product (cond known (Some at-settlement) None)) (within 2 flexible-rule number least most);
+  absent = λ number out.
+      ap (λ (known : Bool). cond known (Some at-settlement) None) (beyond 2 flexible-rule number out);
+  needed = λ number product found.
+      subst (λ (p : Product). p .needs K ≡ true) (settles (from-to 1 2 number) product found) refl;
+  no-other = λ number product letter found need.
+      same-to letter K (subst (λ (p : Product). p .needs letter ≡ true) (sym (settles (from-to 1 2 number) product found)) need);
+}
+
 pub books-have-their-products : Books-have-their-products
 books-have-their-products = record {
   single-issue-trading = has-its-products 22 single-issue-rule true;
   flexible-trading = has-its-products 4 flexible-rule true;
+  compression-trading = has-settlement-products;
 }

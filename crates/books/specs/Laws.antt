@@ -1,15 +1,15 @@
 -- The books against the exchange's rules.
 use Prim.Native.Nat.{ℕ, _≤_, _<_}
 use mathlib.Core.Path.{_≡_}
-use mathlib.Core.Bool.{Bool, true}
+use mathlib.Core.Bool.{true}
 use mathlib.Core.Logic.{_⊎_}
 use Rattle.std.specs.declared.option.Option.{Option}
 use Rattle.std.specs.declared.option.Option.the-variants.{Some, None}
-use Rattle.std.specs.declared.result.Result.the-variants.{Ok, Err}
+use Rattle.std.specs.declared.result.Result.the-variants.{Ok}
 use Rattle.price.specs.Sets.{_among_, between}
 use Rattle.rulebook.specs.declared.Letter.{Letter}
-use Rattle.rulebook.specs.declared.Letter.the-variants.{B, O, U, H}
-use Rattle.rulebook.specs.declared.RuleFault.the-variants.{ProductAbsent}
+use Rattle.rulebook.specs.declared.Letter.the-variants.{B, O, U, H, K}
+use Rattle.rulebook.specs.declared.HoursClass.the-variants.{B as Class-B}
 use Rattle.rulebook.specs.Sheets.{Sheet, Within-limits}
 use Rattle.rulebook.specs.Meaning.{Prices-in-band, Product, Meaning, hours-of, prices-of}
 use Rattle.books.specs.Reference.{mid-price, Mid-price}
@@ -56,9 +56,18 @@ pub record Has-its-products (last : ℕ) (rule : ℕ → Rule) (rules : Meaning)
   pub no-other : (number : ℕ) (product : Product) (letter : Letter) → rules .product number ≡ Some product
       → product .needs letter ≡ true → Names (rule number) letter
 
+-- a book that has the products 1 to a last one, each with hours B, and needing the settlement price alone
+pub record Has-settlement-products (last : ℕ) (rules : Meaning) : Type 0 where
+  pub present : (number : ℕ) → 1 ≤ number → number ≤ last → hours-of rules number ≡ Ok Class-B
+  pub absent : (number : ℕ) → (number ≡ 0) ⊎ (last < number) → rules .product number ≡ None
+  pub needed : (number : ℕ) (product : Product) → rules .product number ≡ Some product → product .needs K ≡ true
+  pub no-other : (number : ℕ) (product : Product) (letter : Letter) → rules .product number ≡ Some product
+      → product .needs letter ≡ true → letter ≡ K
+
 pub record Books-have-their-products : Type 0 where
   pub single-issue-trading : Has-its-products 22 single-issue-rule single-issue
   pub flexible-trading : Has-its-products 4 flexible-rule flexible
+  pub compression-trading : Has-settlement-products 2 compression
 
 -- the mid-price is the nearest multiple of the auction step to half the sum of bid and offer
 abbrev pub The-mid-price-is-nearest : Type 0

@@ -3,6 +3,7 @@ mod quote;
 
 use books::SingleIssue;
 use books::SingleIssueRulebook;
+use price::Grid;
 use price::Limit;
 use price::LimitGrid;
 use price::PriceFaultDebug;
@@ -57,11 +58,39 @@ fn answer(
         "Centre {centre}, band {low} to {high} thousandths of a pip."
     )?;
     let prices = Limit::new(band.grid, low, high)?;
+    quote_each(rt, &prices, asked)
+}
+
+/// Quotes the nearest of `prices` to each of `asked`.
+fn quote_each<G: Grid>(rt: &impl Print, prices: &G, asked: &[(u64, u64)]) -> Result<(), AnyError> {
     for (n, d) in asked {
-        let quote = Quote::new(&prices, *n, *d)?;
+        let quote = Quote::new(prices, *n, *d)?;
         rt.println(quote)?;
     }
     Ok(())
+}
+
+/// Quotes inside the band of a product and inside a collar from `lowest` to `highest` pips.
+fn answer_in_collar(
+    rt: &impl Print,
+    product: u64,
+    figures: &Figures,
+    lowest: u32,
+    highest: u32,
+    asked: &[(u64, u64)],
+) -> Result<(), AnyError> {
+    println!(rt, "Collar {lowest} to {highest}.")?;
+    let band = match SingleIssue.band(product, figures) {
+        Ok(band) => band,
+        Err(fault) => {
+            println!(rt, "No price: {fault}.")?;
+            return Ok(());
+        }
+    };
+    let in_band = Limit::new(band.grid, band.low, band.high)?;
+    let (low, high) = (1000 * u64::from(lowest), 1000 * u64::from(highest));
+    let prices = Limit::new(in_band, low, high)?;
+    quote_each(rt, &prices, asked)
 }
 
 fn soybeans(rt: &impl Print) -> Result<(), AnyError> {
@@ -70,7 +99,9 @@ fn soybeans(rt: &impl Print) -> Result<(), AnyError> {
     answer(rt, 15, &figures, &[(1_005_000, 1)])?;
     post(rt, &mut figures, Letter::L, 1_000_000)?;
     post(rt, &mut figures, Letter::U, 1_000_000)?;
-    answer(rt, 15, &figures, &[(1_005_000, 1), (2_009_999, 2)])?;
+    let asked = [(1_005_000, 1), (2_009_999, 2)];
+    answer(rt, 15, &figures, &asked)?;
+    answer_in_collar(rt, 15, &figures, 1_000_000, 1_000_000, &asked)?;
     post(rt, &mut figures, Letter::L, 15_000)?;
     post(rt, &mut figures, Letter::U, 15_000)?;
     answer(rt, 15, &figures, &[(15_000, 1)])

@@ -1,6 +1,7 @@
 //! Why a call is refused.
 ghost use mathlib.Core.Path.{_≡_};
 ghost use Rattle.history.specs.declared.faults.DayFault.the-variants.{Price, Figure, Rule};
+ghost use Rattle.history.specs.Faults.{number, field-place, place};
 use price::PriceFault;
 use price::PriceFaultDebug;
 use price::PriceFaultPartialEq;
@@ -43,6 +44,59 @@ pub enum DayFault {
     NoSuchOrder,
     AnotherParticipants,
     NotWaiting,
+}
+
+impl EntryField {
+    /// The place of the field in an entry's checks.
+    pub fn place(self) -> u64
+        ensures { λ r. ⌜ r ≡ field-place self ⌝ }
+    {
+        match self {
+            EntryField::Quantity => 1,
+            EntryField::Participant => 2,
+            EntryField::Counterparty => 3,
+        }
+    }
+}
+
+impl DayFault {
+    /// The number under which it is refused.
+    pub fn number(self) -> u64
+        ensures { λ r. ⌜ r ≡ number self ⌝ }
+    {
+        match self {
+            DayFault::Price(price) => price.number(),
+            DayFault::Figure(figure) => figure.number(),
+            DayFault::Rule(rule) => rule.number(),
+            DayFault::MinuteOverLimit => 15,
+            DayFault::CollarOutsideLimits => 16,
+            DayFault::EntryOutsideLimits(_) => 17,
+            DayFault::ContractNotListed => 21,
+            DayFault::ContractsFull => 22,
+            DayFault::MinuteBeforePresent => 23,
+            DayFault::HaltUnchanged => 24,
+            DayFault::NoAdmissiblePrice => 26,
+            DayFault::NotOpen => 27,
+            DayFault::Halted => 28,
+            DayFault::PriceNotAdmissible => 29,
+            DayFault::OrdersFull => 30,
+            DayFault::NoSuchOrder => 31,
+            DayFault::AnotherParticipants => 32,
+            DayFault::NotWaiting => 33,
+        }
+    }
+
+    /// The place that goes with the number: of a lacking letter its rank, of a field out of its
+    /// limits that field's, else 0.
+    pub fn place(self) -> u64
+        ensures { λ r. ⌜ r ≡ place self ⌝ }
+    {
+        match self {
+            DayFault::Rule(rule) => rule.place(),
+            DayFault::EntryOutsideLimits(field) => field.place(),
+            _ => 0,
+        }
+    }
 }
 
 pub impl From<PriceFault> for DayFault as DayFaultFromPrice {

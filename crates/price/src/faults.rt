@@ -1,6 +1,7 @@
 //! Why a fraction or a grid is refused.
+ghost use mathlib.Core.Path.{_≡_};
 ghost use Rattle.std.specs.declared.option.Option.the-variants.{Some};
-ghost use Rattle.price.specs.Faults.{words};
+ghost use Rattle.price.specs.Faults.{number, words};
 use std::error::Error;
 use std::fmt;
 
@@ -10,6 +11,18 @@ pub enum PriceFault {
     FractionOutsideLimits,
     /// A step, a single price or the end of a limit out of its bounds.
     GridOutOfBounds,
+}
+
+impl PriceFault {
+    /// The number under which it is refused.
+    pub fn number(self) -> u64
+        ensures { λ r. ⌜ r ≡ number self ⌝ }
+    {
+        match self {
+            PriceFault::FractionOutsideLimits => 11,
+            PriceFault::GridOutOfBounds => 18,
+        }
+    }
 }
 
 pub impl fmt::Display for PriceFault as PriceFaultDisplay {

@@ -1,5 +1,7 @@
 //! Why a figure is not taken, and why a rulebook has no answer.
+ghost use mathlib.Core.Path.{_≡_};
 ghost use Rattle.std.specs.declared.option.Option.the-variants.{Some};
+ghost use Rattle.rulebook.specs.Faults.{figure-number, rule-number, rule-place};
 ghost use Rattle.rulebook.specs.Words.{figure-words, rule-words};
 use super::letters::Letter;
 use super::letters::LetterDebug;
@@ -22,6 +24,40 @@ pub enum RuleFault {
     ProductAbsent,
     /// The figure of this letter is needed and blank.
     LetterLacking(Letter),
+}
+
+impl FigureFault {
+    /// The number under which it is refused.
+    pub fn number(self) -> u64
+        ensures { λ r. ⌜ r ≡ figure-number self ⌝ }
+    {
+        match self {
+            FigureFault::UnknownLetter => 12,
+            FigureFault::ValueOverLimit => 13,
+        }
+    }
+}
+
+impl RuleFault {
+    /// The number under which it is refused.
+    pub fn number(self) -> u64
+        ensures { λ r. ⌜ r ≡ rule-number self ⌝ }
+    {
+        match self {
+            RuleFault::ProductAbsent => 14,
+            RuleFault::LetterLacking(_) => 25,
+        }
+    }
+
+    /// The rank of the letter that is lacking, else 0.
+    pub fn place(self) -> u64
+        ensures { λ r. ⌜ r ≡ rule-place self ⌝ }
+    {
+        match self {
+            RuleFault::ProductAbsent => 0,
+            RuleFault::LetterLacking(letter) => letter.rank() as u64,
+        }
+    }
 }
 
 pub impl fmt::Display for FigureFault as FigureFaultDisplay {
