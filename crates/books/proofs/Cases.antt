@@ -1,6 +1,6 @@
 -- The worked cases, and what the mid-price is nearest to.
-use Prim.Native.Nat.{ℕ, _+_, _-_, _*_, _≤_, _<_}
-use mathlib.Core.Path.{_≡_, refl, sym, ap, subst, _∙_}
+use Prim.Native.Nat.{ℕ, _+_, _-_, _≤_}
+use mathlib.Core.Path.{_≡_, refl, sym, ap, subst}
 use mathlib.Core.Bool.{Bool, true, false, not, _&&_}
 use mathlib.Core.List.{List, [], _∷_}
 use lib.IntN.{ℤ, pos}
@@ -16,8 +16,7 @@ use Rattle.price.specs.Questions.{Nearest}
 use Rattle.price.proofs.Told.{multiple-from}
 use Rattle.price.proofs.Neighbours.{nearest-multiple-by-neighbours}
 use Rattle.rulebook.specs.declared.Letter.the-variants.{B, O}
-use Rattle.rulebook.specs.Sheets.{Sheet}
-use Rattle.books.specs.Reference.{price-of, mid, mid-price, Mid-price}
+use Rattle.books.specs.Reference.{price-of, mid, Mid-price}
 use Rattle.books.specs.Exchange.{single-issue-rule, flexible-rule}
 use Rattle.books.specs.Laws.{The-mid-price-is-nearest}
 use Rattle.books.specs.Worked.{Case, admits, Right, cases, Worked-cases-are-right}

@@ -1,29 +1,28 @@
 -- A rule, written as a row, gives a band of exactly the prices that the rule admits.
-use Prim.Native.Nat.{ℕ, zero, suc, _+_, _-_, _*_, _%_, _≤_, _<_, max}
+use Prim.Native.Nat.{ℕ, _+_, _-_, _*_, _%_, _≤_, _<_, max}
 use mathlib.Core.Path.{_≡_, refl, sym, ap, subst, _∙_}
 use mathlib.Core.Bool.{Bool, true, false, cond}
-use lib.Dec.{eqb}
 use native.Mathlib.Nat.{mul-assoc, mul-mod-left, mul-le-mul-right, one-mul}
 use native.Mathlib.Omega.{arith}
 use Rattle.std.specs.declared.option.Option.{Option}
 use Rattle.std.specs.declared.option.Option.the-variants.{Some, None}
-use Rattle.std.specs.declared.result.Result.the-variants.{Ok, Err}
+use Rattle.std.specs.declared.result.Result.the-variants.{Ok}
 use Rattle.std.proofs.shelf.Tests.{eqb-true, eq-eqb}
-use Rattle.price.specs.Sets.{_among_, multiples, single, between, last-price, last-end}
+use Rattle.price.specs.Sets.{_among_, multiples, single, between, last-end}
 use Rattle.price.specs.Makers.{from-to}
-use Rattle.price.proofs.Told.{between-parts, between-from, multiple-parts, multiple-from, sets-hold-what-they-say}
+use Rattle.price.proofs.Told.{between-parts, between-from, multiple-from, sets-hold-what-they-say}
 use Rattle.rulebook.specs.declared.Letter.{Letter}
 use Rattle.rulebook.specs.declared.Letter.the-variants.{K}
 use Rattle.rulebook.specs.Letters.{same}
 use Rattle.rulebook.specs.Sheets.{Sheet, Within-limits}
-use Rattle.rulebook.specs.Meaning.{Prices-in-band, Meaning, lacking, unless-lacking, prices-of, prices-of-product}
+use Rattle.rulebook.specs.Meaning.{Prices-in-band, lacking, unless-lacking, prices-of-product}
 use Rattle.books.specs.Reference.{amount}
 use Rattle.books.specs.Exchange.{Share, percent, half-a-percent, parts, in-all, Measured-from, trading-on, last-traded, reference, theoretical, starting-price, Rule, moved-by, Admits, single-issue-rule, flexible-rule, Admits-settlement}
-use Rattle.books.specs.Rows.{Small, centre, swing, width, ends, row-product}
-use Rattle.books.specs.Books.{thousandths, centre-of, step-of, written, product-in, single-issue, flexible, at-settlement, compression}
-use Rattle.books.specs.Laws.{Exactly, Books-admit-what-the-rules-admit}
+use Rattle.books.specs.Rows.{Small, centre, swing, ends, row-product}
+use Rattle.books.specs.Books.{thousandths, centre-of, step-of, written, product-in, at-settlement}
+use Rattle.books.specs.Laws.{Books-admit-what-the-rules-admit}
 use Rattle.books.proofs.Bounds.{single-issue-small, flexible-small}
-use Rattle.books.proofs.Soundness.{Good, row-answers}
+use Rattle.books.proofs.Soundness.{row-answers}
 
 -- a share in thousandths and in hundredths
 above-to : (share : Share) (price from figure moved : ℕ)

@@ -1,9 +1,8 @@
 -- The books have their products, and each needs the letters that its rule names.
 use Prim.Native.Nat.{ℕ, _≤_, _<_}
 use mathlib.Core.Path.{_≡_, refl, sym, ap, subst, _∙_}
-use mathlib.Core.Bool.{Bool, true, false, cond, _||_}
+use mathlib.Core.Bool.{Bool, true, false, cond}
 use mathlib.Core.Logic.{_⊎_, inl, inr}
-use lib.Dec.{leb}
 use native.Mathlib.Omega.{arith}
 use Rattle.std.specs.declared.option.Option.{Option}
 use Rattle.std.specs.declared.option.Option.the-variants.{Some, None}
@@ -14,11 +13,11 @@ use Rattle.rulebook.specs.declared.Letter.{Letter}
 use Rattle.rulebook.specs.declared.Letter.the-variants.{K}
 use Rattle.rulebook.specs.declared.RuleFault.the-variants.{ProductAbsent}
 use Rattle.rulebook.specs.Letters.{rank, same}
-use Rattle.rulebook.specs.Meaning.{Product, Meaning, hours-of-product}
+use Rattle.rulebook.specs.Meaning.{Product, hours-of-product}
 use Rattle.rulebook.proofs.Lackings.{same-rank}
 use Rattle.books.specs.Exchange.{Measured-from, trading-on, last-traded, reference, theoretical, Rule, single-issue-rule, flexible-rule}
 use Rattle.books.specs.Rows.{centre-letter, is-swing, needs, row-product}
-use Rattle.books.specs.Books.{centre-of, written, product-of, product-in, single-issue, flexible, at-settlement, compression}
+use Rattle.books.specs.Books.{centre-of, written, product-of, product-in, at-settlement, compression}
 use Rattle.books.specs.Laws.{starting-letter, Moves, Names, Has-its-products, Has-settlement-products, Books-have-their-products}
 
 same-to : (letter other : Letter) → same letter other ≡ true → letter ≡ other

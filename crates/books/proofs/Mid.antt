@@ -1,13 +1,13 @@
 -- The mid-price: what it is nearest to, and how large it can be.
-use Prim.Native.Nat.{ℕ, _+_, _-_, _*_, _/_, _%_, _≤_, _<_}
-use mathlib.Core.Path.{_≡_, refl, sym, ap, subst, _∙_}
+use Prim.Native.Nat.{ℕ, _+_, _-_, _*_, _/_, _≤_, _<_}
+use mathlib.Core.Path.{_≡_, sym, ap, subst, _∙_}
 use mathlib.Core.Logic.{inl, inr}
 use lib.IntN.{ℤ}
 use native.Mathlib.Nat.{div-add-mod', mod-lt, add-mul, one-mul, mul-assoc, mul-comm, mul-mod-left}
 use native.Mathlib.Omega.{arith}
 use Rattle.std.proofs.shelf.Tests.{cases-eq}
 use Rattle.std.specs.declared.option.Option.{Option}
-use Rattle.std.specs.declared.option.Option.the-variants.{Some, None}
+use Rattle.std.specs.declared.option.Option.the-variants.{Some}
 use Rattle.price.specs.Sets.{multiples, last-price}
 use Rattle.price.specs.Closest.{closest}
 use Rattle.price.specs.Questions.{Nearest}

@@ -1,9 +1,8 @@
 -- The prices that a row gives are prices, and the ends of its band keep their bounds.
-use Prim.Native.Nat.{ℕ, _+_, _-_, _*_, _≤_, _<_, max}
-use mathlib.Core.Path.{_≡_, refl, sym, ap, subst, _∙_}
-use mathlib.Core.Bool.{Bool, true, false, cond, _&&_, _||_, not}
-use mathlib.Core.Logic.{inl, inr}
-use lib.Dec.{eqb, leb}
+use Prim.Native.Nat.{ℕ, _+_, _-_, _*_, _≤_, _<_}
+use mathlib.Core.Path.{_≡_, refl, ap, subst, _∙_}
+use mathlib.Core.Bool.{Bool, true, false, cond}
+use lib.Dec.{eqb}
 use lib.IntN.{ℤ}
 use native.Mathlib.Omega.{arith}
 use Rattle.std.specs.declared.option.Option.{Option}
@@ -11,16 +10,15 @@ use Rattle.std.specs.declared.option.Option.the-variants.{Some, None}
 use Rattle.std.specs.declared.result.Result.{Result}
 use Rattle.std.specs.declared.result.Result.the-variants.{Ok, Err}
 use Rattle.std.proofs.shelf.Bits.{mul-le}
-use Rattle.std.proofs.shelf.Tests.{cond-both, cond-true, cond-false, cases-bool, and-parts, leb-true, eq-eqb, eqb-true, both-ways, or-left}
-use Rattle.price.specs.Sets.{multiples, single, Prices, last-price, last-end}
+use Rattle.std.proofs.shelf.Tests.{cond-both, and-parts, leb-true, eq-eqb, eqb-true, both-ways, or-left}
+use Rattle.price.specs.Sets.{multiples, Prices, last-end}
 use Rattle.price.specs.Closest.{closest}
-use Rattle.price.specs.Questions.{Nearest}
 use Rattle.price.specs.Makers.{from-to}
 use Rattle.price.proofs.Told.{multiple-parts, multiples-are-prices}
 use Rattle.rulebook.specs.declared.Letter.{Letter}
 use Rattle.rulebook.specs.declared.Letter.the-variants.{B, O, L, U, H, K, M}
 use Rattle.rulebook.specs.declared.RuleFault.{RuleFault}
-use Rattle.rulebook.specs.declared.RuleFault.the-variants.{ProductAbsent, LetterLacking}
+use Rattle.rulebook.specs.declared.RuleFault.the-variants.{ProductAbsent}
 use Rattle.rulebook.specs.Letters.{rank, same, most}
 use Rattle.rulebook.specs.Sheets.{Sheet, Within-limits}
 use Rattle.rulebook.specs.Meaning.{Prices-in-band, lacking, unless-lacking, prices-of-product, Meaning, prices-of, Sound}
@@ -29,8 +27,8 @@ use Rattle.rulebook.proofs.Lackings.{first-lacking}
 use Rattle.books.specs.declared.rows.Centre.{Centre}
 use Rattle.books.specs.declared.rows.Centre.the-variants.{TradingPrice, LastPrice, ReferencePrice, TheoreticalPrice}
 use Rattle.books.specs.declared.rows.Row.{Row}
-use Rattle.books.specs.Reference.{_else_, amount, price-of, nearest-multiple, mid, mid-price, chooses-last, trading-price, last-or-reference, apart}
-use Rattle.books.specs.Rows.{centre-letter, needs, centre, swing, width, ends, row-product, Small, weight-stands, step-stands, is-trading}
+use Rattle.books.specs.Reference.{_else_, amount, price-of, mid, mid-price, chooses-last, trading-price, last-or-reference}
+use Rattle.books.specs.Rows.{centre-letter, needs, centre, swing, row-product, Small, weight-stands, step-stands}
 use Rattle.books.specs.Exchange.{Rule, single-issue-rule, flexible-rule}
 use Rattle.books.specs.Books.{written, row-in, product-of, product-in, single-issue, flexible, at-settlement, compression}
 use Rattle.books.proofs.Bounds.{single-issue-small, flexible-small}

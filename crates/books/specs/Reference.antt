@@ -1,7 +1,7 @@
 -- The prices that a block is measured from: the mid-price, and what the figures give where it is not asked for.
 use Prim.Native.Nat.{ℕ, _+_, _-_}
 use mathlib.Core.Path.{_≡_}
-use mathlib.Core.Bool.{Bool, true, false, cond}
+use mathlib.Core.Bool.{Bool, false, cond}
 use lib.Dec.{eqb}
 use lib.IntN.{ℤ}
 use Rattle.std.specs.declared.option.Option.{Option}

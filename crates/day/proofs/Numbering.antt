@@ -1,21 +1,19 @@
 -- Contracts by their numbers, seen through their terms.
 use Prim.Native.Nat.{ℕ, suc, _-_, _≤_, _<_}
-use mathlib.Core.Path.{_≡_, refl, sym, ap, subst, _∙_}
-use mathlib.Core.Bool.{Bool, true, false, cond, _||_}
+use mathlib.Core.Path.{_≡_, sym, ap, _∙_}
+use mathlib.Core.Bool.{false}
 use mathlib.Core.List.{List, map}
 use lib.Dec.{eqb, ltb}
 use lib.ListN.{length, getD, set}
 use native.Mathlib.Omega.{arith}
-use Rattle.std.specs.declared.result.Result.{Result}
 use Rattle.std.specs.declared.result.Result.the-variants.{Ok, Err}
 use Rattle.std.proofs.shelf.Lists.{length-map, getD-map, map-set}
 use Rattle.std.proofs.shelf.Tests.{cond-true, cond-false, or-parts, or-from, or-left, or-right, eq-eqb, ne-eqb, eqb-false, lt-ltb, le-ltb, ltb-false}
-use Rattle.history.specs.declared.DayFault.{DayFault}
 use Rattle.history.specs.declared.DayFault.the-variants.{ContractNotListed}
 use Rattle.history.specs.Rulings.{outside}
 use Rattle.day.specs.declared.contract.Contract.{Contract}
 use Rattle.day.specs.declared.order.Order.{Order}
-use Rattle.day.specs.State.{Terms, terms, just-listed, numbered, no-order}
+use Rattle.day.specs.State.{terms, just-listed, numbered, no-order}
 use Rattle.day.specs.Calls.{finding-in}
 
 above-zero : (number : ℕ) → (number ≡ 0 → ⊥) → 1 ≤ number

@@ -1,9 +1,9 @@
 -- The day as it is stored: the minute, the contracts and the orders, and the board that they make.
-use Prim.Native.Nat.{ℕ, _+_, _-_, _*_}
+use Prim.Native.Nat.{ℕ, _-_, _*_}
 use mathlib.Core.Bool.{Bool, true, false, cond}
-use mathlib.Core.List.{List, [], _∷_, _++_, map}
+use mathlib.Core.List.{List, [], map}
 use lib.Dec.{eqb}
-use lib.ListN.{length, getD, set}
+use lib.ListN.{length, getD}
 use Rattle.std.specs.Of.Vec.{vec-items}
 use Rattle.std.specs.declared.option.Option.{Option}
 use Rattle.std.specs.declared.option.Option.the-variants.{Some, None}
@@ -16,7 +16,6 @@ use Rattle.rulebook.specs.Meaning.{Meaning, Prices-in-band, prices-of}
 use Rattle.rulebook.specs.Sheets.{Sheet, sheet, all-blank}
 use Rattle.history.specs.declared.DayFault.{DayFault}
 use Rattle.history.specs.declared.DayFault.the-variants.{Rule, CollarOutsideLimits}
-use Rattle.history.specs.declared.Entry.{Entry}
 use Rattle.history.specs.History.{collar-of}
 use Rattle.price.specs.Closest.{closest}
 use Rattle.history.specs.declared.Answer.{Answer}

@@ -1,8 +1,8 @@
 -- Every ask of a lawful day was answered right.
 use Prim.Native.Nat.{ℕ, _*_, _≤_}
 use mathlib.Core.Path.{_≡_, refl, sym, ap, subst, _∙_}
-use mathlib.Core.Bool.{Bool, true, false, cond, not, _&&_, _||_}
-use mathlib.Core.Logic.{_⊎_, inl, inr}
+use mathlib.Core.Bool.{Bool, true, false, cond, not, _&&_}
+use mathlib.Core.Logic.{inl, inr}
 use lib.Dec.{eqb, leb}
 use lib.IntN.{ℤ}
 use native.Mathlib.Omega.{arith}
@@ -10,10 +10,10 @@ use Rattle.std.specs.declared.option.Option.{Option}
 use Rattle.std.specs.declared.option.Option.the-variants.{Some, None}
 use Rattle.std.specs.declared.result.Result.{Result}
 use Rattle.std.specs.declared.result.Result.the-variants.{Ok, Err}
-use Rattle.std.proofs.shelf.Tests.{and-parts, or-cases, not-false, cond-true, cond-false, cases-bool, both-ways, leb-true, eqb-true, not-from-true}
-use Rattle.price.specs.Sets.{PriceSet, Prices, between, last-price, last-end}
+use Rattle.std.proofs.shelf.Tests.{and-parts, or-cases, not-false, both-ways, leb-true, not-from-true}
+use Rattle.price.specs.Sets.{PriceSet, Prices, last-end}
 use Rattle.price.specs.Closest.{closest}
-use Rattle.price.specs.Questions.{Nearest, signed-distance}
+use Rattle.price.specs.Questions.{Nearest}
 use Rattle.price.proofs.Told.{between-parts}
 use Rattle.price.proofs.Search.{closest-is-nearest}
 use Rattle.rulebook.specs.declared.RuleFault.{RuleFault}
@@ -21,14 +21,14 @@ use Rattle.rulebook.specs.Meaning.{Meaning, Prices-in-band}
 use Rattle.history.specs.declared.calls.Call.{Call}
 use Rattle.history.specs.declared.calls.Call.the-variants.{Ask}
 use Rattle.history.specs.declared.answers.Answer.{Answer}
-use Rattle.history.specs.declared.answers.Answer.the-variants.{Price, Refused}
+use Rattle.history.specs.declared.answers.Answer.the-variants.{Price}
 use Rattle.price.specs.declared.PriceFault.the-variants.{FractionOutsideLimits}
 use Rattle.history.specs.declared.faults.DayFault.{DayFault}
 use Rattle.history.specs.declared.faults.DayFault.the-variants.{Price as Fraction, ContractNotListed}
 use Rattle.history.specs.History.{History, opened, after, collar, collar-of}
 use Rattle.history.specs.Prices.{inside-collar, admissible-in, band-now, admissible, is-fraction}
 use Rattle.history.specs.Board.{board}
-use Rattle.history.specs.Rulings.{_when_, refuse, by-the-book, unlisted, no-collar, priced, quoted, ruled, Fixed, Lawful}
+use Rattle.history.specs.Rulings.{_when_, refuse, unlisted, no-collar, priced, quoted, ruled, Fixed, Lawful}
 use Rattle.history.specs.Law.{Made, Asked-right}
 use Rattle.history.proofs.Steps.{Step, step, refused, lists, posts, collars, clocks, halts, lifts, asks, enters, withdraws}
 

@@ -1,12 +1,12 @@
 -- What one more call keeps of the orders before it.
 use Prim.Native.Nat.{ℕ, suc, _≤_, _<_}
-use mathlib.Core.Path.{_≡_, refl, sym, ap, subst, _∙_}
-use mathlib.Core.Bool.{Bool, true, false, cond, not, _&&_, _||_}
-use lib.Dec.{eqb, ltb, leb}
+use mathlib.Core.Path.{_≡_, refl, sym, ap, _∙_}
+use mathlib.Core.Bool.{true, false, not}
+use lib.Dec.{eqb, ltb}
 use native.Mathlib.Nat.{le-refl}
 use native.Mathlib.Omega.{arith}
 use mathlib.Core.Logic.{inl, inr}
-use Rattle.std.proofs.shelf.Tests.{and-parts, and-from, or-parts, or-from, or-left, or-right, leb-true, le-leb, ltb-true, ltb-false, lt-ltb, le-ltb, eqb-false, eqb-true, eq-eqb, ne-eqb, not-true, not-from-false, cond-true, cond-false, cases-bool, both-ways}
+use Rattle.std.proofs.shelf.Tests.{and-parts, and-from, or-parts, or-from, or-left, or-right, ltb-true, ltb-false, lt-ltb, le-ltb, eqb-false, eqb-true, eq-eqb, ne-eqb, not-true, not-from-false, cond-true, cond-false, cases-bool, both-ways}
 use Rattle.rulebook.specs.Meaning.{Meaning}
 use Rattle.history.specs.declared.calls.Side.{Side}
 use Rattle.history.specs.declared.calls.Side.the-variants.{Bid, Offer}

@@ -1,7 +1,7 @@
 -- The law, by induction over the history.
-use Prim.Native.Nat.{ℕ, suc, _≤_, _<_}
+use Prim.Native.Nat.{ℕ, _≤_, _<_}
 use mathlib.Core.Path.{_≡_, refl, sym, ap, subst, _∙_}
-use mathlib.Core.Bool.{Bool, true, false, cond, not, _&&_}
+use mathlib.Core.Bool.{Bool, true, false, not}
 use mathlib.Core.Logic.{_⊎_, inl, inr}
 use lib.Dec.{eqb}
 use native.Mathlib.Omega.{arith}
@@ -11,12 +11,12 @@ use Rattle.history.specs.declared.calls.Entry.{Entry}
 use Rattle.history.specs.declared.calls.Call.{Call}
 use Rattle.history.specs.declared.calls.Call.the-variants.{Withdraw}
 use Rattle.history.specs.declared.answers.Answer.{Answer}
-use Rattle.history.specs.declared.answers.Answer.the-variants.{Done, Refused}
+use Rattle.history.specs.declared.answers.Answer.the-variants.{Done}
 use Rattle.history.specs.declared.faults.DayFault.the-variants.{NoSuchOrder, AnotherParticipants, NotWaiting}
 use Rattle.history.specs.History.{History, opened, after}
 use Rattle.history.specs.Orders.{Order, order, orders, known, taken, waits, counters, meets, earliest}
 use Rattle.history.specs.Rulings.{_when_, refuse, outside, Fixed, Lawful}
-use Rattle.history.specs.Law.{Law, Sound, Trade, Joined, Share-an-order}
+use Rattle.history.specs.Law.{Law, Trade, Joined, Share-an-order}
 use Rattle.history.proofs.Firsts.{Found, first-is}
 use Rattle.history.proofs.Steps.{Step, step}
 use Rattle.history.proofs.Kept.{known-parts, known-from, waits-parts, taken-on, New, same-order, new-order, waits-back, counter-parts, counter-flip, counter-self}

@@ -1,8 +1,7 @@
 -- The board: how a day stands, as far as calls are answered by it.
 use Prim.Native.Nat.{ℕ}
 use mathlib.Core.Bool.{Bool, _&&_}
-use lib.Dec.{leb, ltb}
-use Rattle.std.specs.Options.{isSome}
+use lib.Dec.{leb}
 use Rattle.std.specs.declared.option.Option.{Option}
 use Rattle.std.specs.declared.result.Result.{Result}
 use Rattle.price.specs.Sets.{PriceSet}
@@ -12,7 +11,7 @@ use Rattle.rulebook.specs.Sheets.{Sheet}
 use Rattle.history.specs.declared.calls.Entry.{Entry}
 use Rattle.history.specs.History.{History, minute, listed, product, figures, collar, halted}
 use Rattle.history.specs.Prices.{admissible-in, closing-in}
-use Rattle.history.specs.Orders.{order, orders, waits, ends, counters, first}
+use Rattle.history.specs.Orders.{order, orders, waits, ends, counters}
 
 pub record Board : Type 0 where
   pub minute : ℕ

@@ -7,7 +7,6 @@ use Rattle.std.specs.declared.option.Option.the-variants.{Some, None}
 use Rattle.rulebook.specs.declared.Letter.{Letter}
 use Rattle.rulebook.specs.Letters.{letter-of, most}
 use Rattle.rulebook.specs.Sheets.{Sheet, all-blank, with-figure}
-use Rattle.history.specs.declared.calls.Entry.{Entry}
 use Rattle.history.specs.declared.calls.Call.{Call}
 use Rattle.history.specs.declared.calls.Call.the-variants.{List, Post, Collar, Clock, Halt, Lift, Ask, Enter, Withdraw}
 use Rattle.history.specs.declared.answers.Answer.{Answer}

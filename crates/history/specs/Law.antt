@@ -1,10 +1,8 @@
 -- The law of the day: what holds of every lawful history, under every rulebook.
-use Prim.Native.Nat.{ℕ, _≤_, _<_}
+use Prim.Native.Nat.{ℕ, _<_}
 use mathlib.Core.Path.{_≡_}
 use mathlib.Core.Logic.{_⊎_}
-use mathlib.Core.Bool.{Bool, true, false}
-use lib.IntN.{ℤ}
-use Rattle.std.specs.declared.option.Option.the-variants.{Some, None}
+use mathlib.Core.Bool.{true, false}
 use Rattle.std.specs.declared.result.Result.the-variants.{Ok}
 use Rattle.price.specs.Sets.{_among_}
 use Rattle.price.specs.Questions.{signed-distance, Worse}
@@ -14,9 +12,9 @@ use Rattle.history.specs.declared.calls.Call.the-variants.{Ask, Withdraw}
 use Rattle.history.specs.declared.answers.Answer.{Answer}
 use Rattle.history.specs.declared.answers.Answer.the-variants.{Done, Price, Refused}
 use Rattle.history.specs.declared.faults.DayFault.the-variants.{NoAdmissiblePrice}
-use Rattle.history.specs.History.{History, opened, after, minute, listed}
+use Rattle.history.specs.History.{History, opened, after, minute}
 use Rattle.history.specs.Prices.{band-now, admissible, is-open, is-stopped, is-fraction}
-use Rattle.history.specs.Orders.{Order, order, known, waits, ends, counters, opposite}
+use Rattle.history.specs.Orders.{order, known, waits, ends, counters, opposite}
 use Rattle.history.specs.Board.{board}
 use Rattle.history.specs.Rulings.{unlisted, Fixed, Lawful}
 

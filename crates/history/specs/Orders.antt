@@ -1,7 +1,7 @@
 -- The orders of a day, which of them wait, and which counter each other.
 use Prim.Native.Nat.{ℕ, zero, suc}
 use mathlib.Core.Bool.{Bool, true, false, cond, not, _&&_, _||_}
-use lib.Dec.{eqb, ltb, leb}
+use lib.Dec.{eqb, ltb}
 use Rattle.std.specs.Options.{valueOr}
 use Rattle.rulebook.specs.Meaning.{Meaning}
 use Rattle.history.specs.declared.calls.Side.{Side}
@@ -9,7 +9,6 @@ use Rattle.history.specs.declared.calls.Side.the-variants.{Bid, Offer}
 use Rattle.history.specs.declared.calls.Entry.{Entry}
 use Rattle.history.specs.declared.calls.Call.{Call}
 use Rattle.history.specs.declared.calls.Call.the-variants.{List, Post, Collar, Clock, Halt, Lift, Ask, Enter, Withdraw}
-use Rattle.history.specs.declared.answers.Answer.{Answer}
 use Rattle.history.specs.declared.answers.Answer.the-variants.{Listed, Done, Lapsed, Price, Ordered, Refused}
 use Rattle.history.specs.History.{History, opened, after, accepted, minute}
 use Rattle.history.specs.Prices.{open-until}

@@ -1,8 +1,7 @@
 -- Which prices are admissible: on the rulebook's grid, inside its band and inside the collar.
 use Prim.Native.Nat.{ℕ, _*_}
-use mathlib.Core.Bool.{Bool, true, false, _&&_}
-use lib.Dec.{leb, ltb}
-use Rattle.std.specs.Options.{isSome, valueOr}
+use mathlib.Core.Bool.{Bool, false, _&&_}
+use Rattle.std.specs.Options.{isSome}
 use Rattle.std.specs.declared.option.Option.{Option}
 use Rattle.std.specs.declared.option.Option.the-variants.{Some, None}
 use Rattle.std.specs.declared.result.Result.{Result}

@@ -1,7 +1,7 @@
 -- What each call is answered after a history, and the days that are so answered.
-use Prim.Native.Nat.{ℕ, suc, _*_}
+use Prim.Native.Nat.{ℕ, suc}
 use mathlib.Core.Path.{_≡_}
-use mathlib.Core.Bool.{Bool, true, false, cond, not, _&&_, _||_}
+use mathlib.Core.Bool.{Bool, cond, not, _&&_, _||_}
 use lib.Dec.{eqb, ltb, leb}
 use lib.IntN.{ℤ}
 use Rattle.std.specs.Options.{isSome}
@@ -15,7 +15,6 @@ use Rattle.rulebook.specs.declared.Letter.{Letter}
 use Rattle.rulebook.specs.declared.FigureFault.the-variants.{UnknownLetter, ValueOverLimit}
 use Rattle.rulebook.specs.declared.RuleFault.{RuleFault}
 use Rattle.rulebook.specs.Meaning.{Meaning, Prices-in-band, hours-of}
-use Rattle.history.specs.declared.calls.Entry.{Entry}
 use Rattle.history.specs.declared.calls.Call.{Call}
 use Rattle.history.specs.declared.calls.Call.the-variants.{List, Post, Collar, Clock, Halt, Lift, Ask, Enter, Withdraw}
 use Rattle.history.specs.declared.answers.Answer.{Answer}

@@ -1,9 +1,8 @@
 -- Each question has exactly one answer. The greatest price at or below n / d is the nearest of those at or below it,
 -- and so for the least at or above; what the search finds among them is therefore the answer.
-use Prim.Native.Nat.{ℕ, suc, _+_, _-_, _*_, _≤_, _<_}
-use mathlib.Core.Path.{_≡_, refl, sym, _∙_, ap, subst}
-use mathlib.Core.Bool.{Bool, true, false, _&&_}
-use mathlib.Core.Logic.{_⊎_, inl, inr}
+use Prim.Native.Nat.{ℕ, _-_, _*_, _≤_}
+use mathlib.Core.Bool.{Bool, _&&_}
+use mathlib.Core.Logic.{inl, inr}
 use lib.Dec.{leb}
 use lib.IntN.{ℤ}
 use native.Mathlib.Nat.{le-of-mul-le-mul-right}
@@ -11,8 +10,8 @@ use native.Mathlib.Omega.{arith}
 use Rattle.std.specs.declared.option.Option.{Option}
 use Rattle.std.specs.declared.option.Option.the-variants.{Some, None}
 use Rattle.std.proofs.shelf.Tests.{and-parts, and-from, leb-true, le-leb, cases-lt, cases-eq}
-use Rattle.price.specs.Sets.{PriceSet, _among_, Prices}
-use Rattle.price.specs.Questions.{Greatest-at-or-below, Least-at-or-above, distance, Worse, Nearest}
+use Rattle.price.specs.Sets.{PriceSet, Prices}
+use Rattle.price.specs.Questions.{Greatest-at-or-below, Least-at-or-above, Nearest}
 use Rattle.price.specs.Closest.{closest}
 use Rattle.price.specs.Laws.{One-answer, Each-question-has-one-answer}
 use Rattle.price.proofs.Nearness.{one-greatest, one-least, one-nearest}

@@ -1,11 +1,10 @@
 -- Quotients rounded down and up, multiples of a step, and a fraction held to an end.
 use Prim.Native.Nat.{ℕ, zero, suc, _+_, _-_, _*_, _/_, _%_, _≤_, _<_, min}
-use mathlib.Core.Path.{_≡_, refl, sym, _∙_, ap, subst}
+use mathlib.Core.Path.{_≡_, refl, _∙_, ap}
 use mathlib.Core.Logic.{_⊎_, inl, inr}
-use native.Mathlib.Nat.{div-mul-le-self, div-add-mod', mod-lt, mod-le, le-of-mul-le-mul-right, lt-of-mul-lt-mul-right, add-mul, one-mul, zero-mul, suc-mul, mul-right-comm, mul-le-mul-right, mul-mod-left}
+use native.Mathlib.Nat.{div-mul-le-self, div-add-mod', mod-lt, le-of-mul-le-mul-right, lt-of-mul-lt-mul-right, add-mul, one-mul, zero-mul, suc-mul, mul-right-comm, mul-le-mul-right, mul-mod-left}
 use native.Mathlib.Omega.{arith}
 use Rattle.std.proofs.shelf.Bits.{le-div, mul-le}
-use Rattle.std.proofs.shelf.Tests.{cases-lt}
 use Rattle.price.specs.Rounding.{Floor, Ceiling, Last-multiple, First-multiple, Lesser, Greater}
 
 pub floor-div : (n d : ℕ) → 1 ≤ d → Floor n d (n / d)

@@ -1,9 +1,8 @@
 -- The search of all prices ends with the nearest.
-use Prim.Native.Nat.{ℕ, zero, suc, _+_, _*_, _≤_, _<_}
+use Prim.Native.Nat.{ℕ, zero, suc, _≤_, _<_}
 use mathlib.Core.Path.{_≡_, refl, sym, _∙_, ap, subst}
-use mathlib.Core.Bool.{Bool, true, false, cond}
-use mathlib.Core.Logic.{_⊎_, inl, inr}
-use lib.Dec.{leb}
+use mathlib.Core.Bool.{false}
+use mathlib.Core.Logic.{inl, inr}
 use lib.IntN.{ℤ}
 use native.Mathlib.Omega.{arith}
 use Rattle.std.specs.declared.option.Option.{Option}

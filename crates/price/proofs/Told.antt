@@ -1,12 +1,11 @@
 -- The sets of the grids hold what they say.
-use Prim.Native.Nat.{ℕ, zero, suc, _+_, _*_, _/_, _%_, _≤_, _<_}
-use mathlib.Core.Path.{_≡_, refl, sym, _∙_, ap}
+use Prim.Native.Nat.{ℕ, zero, suc, _*_, _/_, _%_, _≤_}
+use mathlib.Core.Path.{_≡_, refl}
 use native.Mathlib.Nat.{mul-mod-left, zero-mul}
 use native.Mathlib.Omega.{arith}
-use lib.Dec.{eqb, leb}
 use Rattle.std.proofs.shelf.Bits.{mul-le}
 use Rattle.std.proofs.shelf.Tests.{and-parts, and-from, leb-true, le-leb, eqb-true, eq-eqb}
-use Rattle.price.specs.Sets.{PriceSet, _among_, Prices, last-price, multiples, single, between}
+use Rattle.price.specs.Sets.{PriceSet, _among_, Prices, last-price, multiples, between}
 use Rattle.price.specs.Laws.{Sets-hold-what-they-say}
 use Rattle.price.proofs.Quotients.{in-steps}
 

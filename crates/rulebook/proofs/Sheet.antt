@@ -1,7 +1,7 @@
 -- A sheet in which one figure is written.
 use Prim.Native.Nat.{ℕ, _-_, _≤_, _<_}
 use mathlib.Core.Path.{_≡_, refl, sym, _∙_, ap, subst}
-use mathlib.Core.Bool.{Bool, true, false, cond}
+use mathlib.Core.Bool.{true, cond}
 use mathlib.Core.List.{List}
 use mathlib.Core.Logic.{inl, inr}
 use lib.Dec.{eqb, leb}
@@ -10,7 +10,7 @@ use lib.Seq.{getD-set-same, getD-set-other}
 use native.Mathlib.Omega.{arith}
 use Rattle.std.specs.declared.option.Option.{Option}
 use Rattle.std.specs.declared.option.Option.the-variants.{Some, None}
-use Rattle.std.proofs.shelf.Tests.{cases-eq, cases-bool, cond-true, cond-false, eq-eqb, ne-eqb, le-leb, leb-true, and-from, and-parts}
+use Rattle.std.proofs.shelf.Tests.{cases-eq, cond-true, cond-false, eq-eqb, ne-eqb, le-leb, leb-true, and-from, and-parts}
 use Rattle.rulebook.specs.declared.letters.Letter.{Letter}
 use Rattle.rulebook.specs.declared.letters.Letter.the-variants.{B, O, L, U, V, W, X, Y, Z, H, I, K, M}
 use Rattle.rulebook.specs.Letters.{rank, same, most}

@@ -1,6 +1,5 @@
-use Prim.Native.Nat.{ℕ}
 use mathlib.Core.Path.{sym, _∙_}
-use mathlib.Core.Bool.{Bool, _&&_}
+use mathlib.Core.Bool.{_&&_}
 use Rattle.rulebook.specs.declared.Letter.{Letter}
 use Rattle.rulebook.specs.Sheets.{sheet, is-blank}
 use Rattle.books.specs.Rows.{needs}

@@ -1,7 +1,7 @@
 use Prim.Native.Nat.{_<_}
-use mathlib.Core.Path.{sym, ap, subst, _∙_}
-use mathlib.Core.List.{List, map, _++_, []}
-use lib.ListN.{length, take, drop, set}
+use mathlib.Core.Path.{ap, _∙_}
+use mathlib.Core.List.{List, map, _++_}
+use lib.ListN.{length, drop, set}
 use native.Mathlib.Omega.{arith}
 use Rattle.std.proofs.shelf.Edits.{map-over-more}
 use Rattle.std.proofs.shelf.Lists.{take-all, drop-all, append-nil, getD-default}

@@ -1,7 +1,4 @@
-use Prim.Native.Nat.{ℕ, _*_}
-use mathlib.Core.Path.{sym, subst}
 use native.Mathlib.Omega.{arith}
-use Rattle.price.specs.Rounding.{First-multiple}
 use Rattle.price.proofs.Quotients.{first-multiple, first-within}
 use Rattle.price.proofs.rounding.first_multiple.Needs as need
 

@@ -2,7 +2,7 @@ use mathlib.Core.Path.{ap, refl, _∙_}
 use mathlib.Core.List.{List, map}
 use Rattle.std.specs.Of.Vec.{vec-items}
 use Rattle.std.proofs.shelf.Lists.{map-push}
-use Rattle.day.specs.State.{Terms, State, terms}
+use Rattle.day.specs.State.{Terms, terms}
 use Rattle.day.proofs.state.Day.add.Needs as need
 
 pub returns : need.returns

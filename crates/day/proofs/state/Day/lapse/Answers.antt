@@ -1,10 +1,10 @@
-use mathlib.Core.Path.{_≡_, ap, refl, _∙_}
+use mathlib.Core.Path.{ap, refl, _∙_}
 use mathlib.Core.List.{List, map}
 use borrow.Author.Needs.{needs}
 use Rattle.std.specs.Of.Vec.{vec-items}
 use Rattle.std.proofs.shelf.Lists.{refilled-is}
 use Rattle.day.specs.declared.order.Order.{Order}
-use Rattle.day.specs.State.{State, terms}
+use Rattle.day.specs.State.{terms}
 use Rattle.day.specs.Calls.{clocked}
 use Rattle.day.proofs.state.Day.lapse.Needs as need
 

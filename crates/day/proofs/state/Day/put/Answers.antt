@@ -1,14 +1,12 @@
-use mathlib.Core.Path.{_≡_, ap, refl, _∙_}
+use mathlib.Core.Path.{ap, refl, _∙_}
 use mathlib.Core.List.{List, map}
-use lib.ListN.{length, set}
+use lib.ListN.{set}
 use Prim.Native.Nat.{_-_}
-use native.Mathlib.Omega.{arith}
 use borrow.Author.Needs.{needs}
 use Rattle.std.specs.Of.Vec.{vec-items}
 use Rattle.std.proofs.shelf.Lists.{refilled-is}
 use Rattle.day.specs.declared.contract.Contract.{Contract}
-use Rattle.day.specs.declared.order.Order.{Order}
-use Rattle.day.specs.State.{Terms, State, terms}
+use Rattle.day.specs.State.{Terms, terms}
 use Rattle.day.proofs.state.Day.put.Needs as need
 
 pub returns : need.returns

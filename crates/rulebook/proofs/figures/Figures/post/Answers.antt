@@ -1,7 +1,6 @@
-use Prim.Native.Nat.{ℕ, _-_, _<_, _≤_}
+use Prim.Native.Nat.{_-_, _<_, _≤_}
 use lib.ListN.{length}
 use borrow.Author.Needs.{needs}
-use mathlib.Core.Path.{_≡_, subst, sym}
 use Rattle.rulebook.specs.Letters.{rank, most}
 use Rattle.rulebook.proofs.Sheet.{sheet-written, fits-written, most-at}
 use Rattle.rulebook.proofs.figures.Figures.post.Needs as need
