@@ -79,6 +79,8 @@ unfolding single-issue-rule flexible-rule all-admitted none-admitted all-right
 worked-cases = record {
   right = right cases (rw half-way refl);
   soybean-ends = refl;
+  higher-soybean-ends = refl;
+  usual-soybean-ends = refl;
   nikkei-mid = ap price-of half-way;
   nikkei-trading = rw half-way refl;
 }

@@ -32,12 +32,16 @@ admits c price = inside (prices-of (c .rules) (c .product) (c .figures)) price
 abbrev pub Right : Case → Type 0
 Right c = All (λ price. admits c price ≡ true) (c .admitted) × All (λ price. admits c price ≡ false) (c .turned-away)
 
+-- last and reference price of soybeans
+abbrev pub soybeans-at : ℕ → Sheet
+soybeans-at price = with-figure (with-figure all-blank L price) U price
+
 -- soybeans at 15,000: the band lies between two multiples of the unit
 abbrev pub soybeans : Case
 soybeans = record {
   rules = single-issue;
   product = 15;
-  figures = with-figure (with-figure all-blank L 15_000) U 15_000;
+  figures = soybeans-at 15_000;
   admitted = [];
   turned-away = 10_000 ∷ 15_000 ∷ 20_000 ∷ [];
 }
@@ -96,7 +100,11 @@ cases = soybeans ∷ nikkei ∷ bonds ∷ risen ∷ fallen ∷ banks ∷ []
 
 pub record Worked-cases-are-right : Type 0 where
   pub right : All Right cases
-  pub soybean-ends : prices-of single-issue 15 (soybeans .figures)
+  pub soybean-ends : prices-of single-issue 15 (soybeans-at 15_000)
       ≡ Ok (record { on-grid = multiples 10_000; low = 10_200_000; high = 19_800_000 })
+  pub higher-soybean-ends : prices-of single-issue 15 (soybeans-at 20_000)
+      ≡ Ok (record { on-grid = multiples 10_000; low = 13_600_000; high = 26_400_000 })
+  pub usual-soybean-ends : prices-of single-issue 15 (soybeans-at 1_000_000)
+      ≡ Ok (record { on-grid = multiples 10_000; low = 680_000_000; high = 1_320_000_000 })
   pub nikkei-mid : mid-price 100_000 (nikkei .figures) ≡ Some 400_100_000
   pub nikkei-trading : trading-price 100_000 (nikkei .figures) ≡ 400_100_000
