@@ -83,4 +83,6 @@ worked-cases = record {
   usual-soybean-ends = refl;
   nikkei-mid = ap price-of half-way;
   nikkei-trading = rw half-way refl;
+  bonds-open-at-914 = refl;
+  bonds-closed-at-915 = refl;
 }

@@ -3,15 +3,18 @@ use Prim.Native.Nat.{ℕ}
 use mathlib.Core.Path.{_≡_}
 use mathlib.Core.Bool.{Bool, true, false}
 use mathlib.Core.List.{List, [], _∷_}
-use Rattle.std.specs.declared.option.Option.the-variants.{Some}
+use Rattle.std.specs.declared.option.Option.{Option}
+use Rattle.std.specs.declared.option.Option.the-variants.{Some, None}
 use Rattle.std.specs.declared.result.Result.{Result}
 use Rattle.std.specs.declared.result.Result.the-variants.{Ok, Err}
 use Rattle.std.specs.shelf.Lists.{All}
 use Rattle.price.specs.Sets.{multiples, between}
 use Rattle.rulebook.specs.declared.RuleFault.{RuleFault}
+use Rattle.rulebook.specs.declared.HoursClass.{HoursClass}
+use Rattle.rulebook.specs.Hours.{closing}
 use Rattle.rulebook.specs.declared.Letter.the-variants.{B, O, L, U, V, W, Z, H, I}
 use Rattle.rulebook.specs.Sheets.{Sheet, all-blank, with-figure}
-use Rattle.rulebook.specs.Meaning.{Prices-in-band, Meaning, prices-of}
+use Rattle.rulebook.specs.Meaning.{Prices-in-band, Meaning, prices-of, hours-of}
 use Rattle.books.specs.Reference.{mid-price, trading-price}
 use Rattle.books.specs.Books.{single-issue, flexible}
 
@@ -98,6 +101,11 @@ banks = record {
 abbrev pub cases : List Case
 cases = soybeans ∷ nikkei ∷ bonds ∷ risen ∷ fallen ∷ banks ∷ []
 
+-- when the hours of a product that hold a minute end
+abbrev pub open-until : Result HoursClass RuleFault → ℕ → Option ℕ
+open-until (Ok class) now = closing class now
+open-until (Err fault) now = None
+
 pub record Worked-cases-are-right : Type 0 where
   pub right : All Right cases
   pub soybean-ends : prices-of single-issue 15 (soybeans-at 15_000)
@@ -108,3 +116,5 @@ pub record Worked-cases-are-right : Type 0 where
       ≡ Ok (record { on-grid = multiples 10_000; low = 680_000_000; high = 1_320_000_000 })
   pub nikkei-mid : mid-price 100_000 (nikkei .figures) ≡ Some 400_100_000
   pub nikkei-trading : trading-price 100_000 (nikkei .figures) ≡ 400_100_000
+  pub bonds-open-at-914 : open-until (hours-of single-issue 1) 914 ≡ Some 915
+  pub bonds-closed-at-915 : open-until (hours-of single-issue 1) 915 ≡ None
