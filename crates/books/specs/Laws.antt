@@ -63,7 +63,7 @@ pub record BooksHaveTheirProducts : Type 0 where
   pub flexible_trading : HasItsProducts 4 flexible_rule flexible
   pub compression_trading : HasSettlementProducts 2 compression
 
--- the mid_price is the nearest multiple of the auction step to half the sum of bid and offer
+-- the mid-price is the nearest multiple of the auction step to half the sum of bid and offer
 abbrev pub TheMidPriceIsNearest : Type 0
 TheMidPriceIsNearest =
     (step : ℕ) (figures : Sheet) → 1 ≤ step → step ≤ 100_000

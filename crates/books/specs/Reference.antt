@@ -1,4 +1,4 @@
--- The prices that a block is measured from: the mid_price, and what the figures give where it is not asked for.
+-- The prices that a block is measured from: the mid-price, and what the figures give where it is not asked for.
 use Rattle.std.specs.Prelude.{◌≡◌, ℕ, ◌+◌, ◌-◌, Bool, false, cond, ℤ, Some, None, Option, ◌==◌}
 use Rattle.std.specs.Option.{option_or, unwrap_or}
 use Rattle.price.specs.Closest.{closest}
@@ -24,7 +24,7 @@ price_of (Some (price, signed)) = Some price
 abbrev pub nearest_multiple : ℕ → ℕ → Option ℕ
 nearest_multiple step sum = price_of (closest (multiples step) sum 2)
 
--- the mid_price of a bid and an offer, where both are posted: the nearest multiple of the auction step to half their sum
+-- the mid-price of a bid and an offer, where both are posted: the nearest multiple of the auction step to half their sum
 abbrev pub mid : ℕ → Option ℕ → Option ℕ → Option ℕ
 mid step None offer = None
 mid step (Some bid) None = None
@@ -33,12 +33,12 @@ mid step (Some bid) (Some offer) = nearest_multiple step (bid + offer)
 abbrev pub mid_price : ℕ → Sheet → Option ℕ
 mid_price step figures = mid step (figures B) (figures O)
 
--- M at 2 chooses the last traded price; blank or at 1 it chooses the mid_price
+-- M at 2 chooses the last traded price; blank or at 1 it chooses the mid-price
 abbrev pub chooses_last : Option ℕ → Bool
 chooses_last None = false
 chooses_last (Some choice) = choice == 2
 
--- T: the mid_price, else the last price, else the reference price; M can put the last price first
+-- T: the mid-price, else the last price, else the reference price; M can put the last price first
 abbrev pub trading_price : ℕ → Sheet → ℕ
 trading_price step figures =
     amount (cond (chooses_last (figures M))
@@ -53,7 +53,7 @@ last_or_reference figures = amount (figures L else figures U)
 abbrev pub apart : ℕ → ℕ → ℕ
 apart a b = (a - b) + (b - a)
 
--- what the mid_price of a sheet is, by the relation of the nearest price
+-- what the mid-price of a sheet is, by the relation of the nearest price
 abbrev pub MidPrice : ℕ → Option ℕ → Option ℕ → Option ℕ → Type 0
 MidPrice step None offer price = price ≡ None
 MidPrice step (Some bid) None price = price ≡ None

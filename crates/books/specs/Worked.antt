@@ -42,7 +42,7 @@ soybeans = record {
   turned_away = 10_000 ∷ 15_000 ∷ 20_000 ∷ [];
 }
 
--- Nikkei 225 futures: the mid_price of 400,000,000 and 400,100,000 is 400,100,000, the higher of two equally near
+-- Nikkei 225 futures: the mid-price of 400,000,000 and 400,100,000 is 400,100,000, the higher of two equally near
 abbrev pub nikkei : Case
 nikkei = record {
   rules = single_issue;

@@ -16,7 +16,7 @@ pub fn books_have_their_products() -> bool
     true
 }
 
-/// The mid_price is the nearest multiple of the auction step to half the sum of bid and offer.
+/// The mid-price is the nearest multiple of the auction step to half the sum of bid and offer.
 pub fn mid_price_is_nearest() -> bool
     ensures { TheMidPriceIsNearest }
 {

@@ -1,4 +1,6 @@
 //! The three books of the exchange.
+#![tactic(auto)]
+
 mod compression;
 mod flexible;
 mod laws;

@@ -67,7 +67,7 @@ fn nearest_to_half(step: u64, sum: u64) -> Option<u64>
     Some(price)
 }
 
-/// The mid_price on an auction step, where bid and offer are posted.
+/// The mid-price on an auction step, where bid and offer are posted.
 fn mid_price(step: u64, figures: &Figures) -> Option<u64>
     requires { (1 ≤ step) × (step ≤ 100_000) }
     ensures value { result ≡ mid_price step (sheet figures.now) }
@@ -90,7 +90,7 @@ fn last_or_reference(figures: &Figures) -> u64
     }
 }
 
-/// T: the mid_price, else the last price, else the reference price; the choice can put the last price first.
+/// T: the mid-price, else the last price, else the reference price; the choice can put the last price first.
 fn trading_price(step: u64, figures: &Figures) -> u64
     requires { (1 ≤ step) × (step ≤ 100_000) }
     ensures value { result ≡ trading_price step (sheet figures.now) }

@@ -4,7 +4,7 @@ use rulebook::{HoursClass, Letter};
 /// What a price is measured from.
 #[derive(Clone, Copy)]
 pub enum Centre {
-    /// The mid_price, the last price or the reference price, as the choice says.
+    /// The mid-price, the last price or the reference price, as the choice says.
     TradingPrice,
     /// The last price, else the reference price.
     LastPrice,

@@ -1,4 +1,4 @@
-//! The single_issue book.
+//! The single-issue book.
 ghost use Rattle.std.specs.Prelude.{◌≡◌, IfOk};
 ghost use Rattle.rulebook.specs.Sheets.{sheet};
 ghost use Rattle.books.specs.Books.{single_issue, row_in, entry_centre};

@@ -1,4 +1,4 @@
-//! The rows of the single_issue and the flexible book. A product's number is its row's, from 1.
+//! The rows of the single-issue and the flexible book. A product's number is its row's, from 1.
 ghost use Rattle.std.specs.Prelude.{◌≡◌, ◌+◌, ◌<◌, map};
 ghost use Rattle.std.specs.List.{range_with_len};
 ghost use Rattle.books.specs.Books.{written};
@@ -274,7 +274,7 @@ const FLEXIBLE: [Row; 4] = [
     },
 ];
 
-/// The single_issue book as a whole.
+/// The single-issue book as a whole.
 fn single_issue_table() -> &'static [Row; 22]
     ensures { result.now ≡ map (λ product. written (single_issue_rules product)) (range_with_len 1 22) }
 {

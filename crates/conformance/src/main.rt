@@ -1,4 +1,6 @@
 //! Runs stored sessions through the library, whole and in pieces, and compares what is printed with the right answers.
+#![tactic(auto)]
+
 use anyhow::anyhow;
 use books::SingleIssue;
 use day::Day;

@@ -1,5 +1,5 @@
 -- The checks of an entry, one after the other, against the rulings.
-use Rattle.std.proofs.Common.{◌≡◌, ℕ, suc, Bool, true, false, cond, not, ◌&&◌, leb, length, is_some, Some, None, Ok, Err, Option, Result, unwrap_or, sym, refl, ap, ◌∙◌, subst, arith}
+use Rattle.std.proofs.Common.{◌≡◌, ℕ, suc, Bool, true, false, cond, not, ◌&&◌, leb, length, is_ok, is_some, Some, None, Ok, Err, Option, Result, unwrap_or, sym, refl, ap, ◌∙◌, subst, arith}
 use Rattle.rulebook.specs.declared.RuleFault.{RuleFault}
 use Rattle.rulebook.specs.Meaning.{Meaning, PricesInBand, hours_of}
 use Rattle.history.specs.declared.Entry.{Entry}
@@ -13,20 +13,16 @@ use Rattle.history.specs.History.{accepted}
 use Rattle.history.specs.Prices.{admissible_in, closing_in}
 use Rattle.history.specs.Rulings.{◌when◌, refuse, by_the_book, outside}
 use Rattle.day.specs.State.{Terms, State, contract_at, in_collar, band_for, admissible_set}
-use Rattle.day.specs.Calls.{partner_on, paired, deny, then, within_limits, admitted_at, admitted_by_contract, admitted, changed}
+use Rattle.day.specs.Calls.{partner_on, paired, deny, then, within_limits, admitted_at, admitted_by_contract, admitted, entered, after_entry, changed}
 use Rattle.day.specs.Following.{answered, left}
-
--- the answer to an entry that came so far
-abbrev entered : Result ℕ DayFault → Answer → Answer
-entered (Ok until) answer = answer
-entered (Err fault) answer = Refused fault
+use Rattle.day.specs.Laws.{EntriesFollowTheRulings}
 
 -- the checks of hours, halt, price and room
-last_checks : (closed halted Outside-set full : Bool) (until : ℕ) (answer : Answer)
-    → entered (then (deny (NotOpen when closed) (deny (Halted when halted) (deny (PriceNotAdmissible when Outside-set) (Ok until)))) (λ (u : ℕ). deny (OrdersFull when full) (Ok u))) answer
-    ≡ refuse (NotOpen when closed) (refuse (Halted when halted) (refuse (PriceNotAdmissible when Outside-set) (refuse (OrdersFull when full) answer)))
-last_checks true halted Outside-set full until answer = refl
-last_checks false true Outside-set full until answer = refl
+last_checks : (closed halted outside_set full : Bool) (until : ℕ) (answer : Answer)
+    → entered (then (deny (NotOpen when closed) (deny (Halted when halted) (deny (PriceNotAdmissible when outside_set) (Ok until)))) (λ (u : ℕ). deny (OrdersFull when full) (Ok u))) answer
+    ≡ refuse (NotOpen when closed) (refuse (Halted when halted) (refuse (PriceNotAdmissible when outside_set) (refuse (OrdersFull when full) answer)))
+last_checks true halted outside_set full until answer = refl
+last_checks false true outside_set full until answer = refl
 last_checks false false true full until answer = refl
 last_checks false false false true until answer = refl
 last_checks false false false false until answer = refl
@@ -114,7 +110,7 @@ module _ (rules : Meaning) (s : State) (entry : Entry) where
       (until_denied end (Halted when (contract.halted && rules.halt_binds)) _
       (until_denied end (PriceNotAdmissible when not (set entry.price)) _ (until_itself end)))))))
 
-  abbrev numbered : Answer
+  abbrev pub numbered : Answer
   numbered = Ordered (suc (length s.orders)) (partner_on s entry)
 
   left_by : (answer : Answer) → answer ≡ answered rules s (Enter entry) → cond (accepted answer) (changed rules s (Enter entry)) s ≡ left rules s (Enter entry)
@@ -134,3 +130,14 @@ module _ (rules : Meaning) (s : State) (entry : Entry) where
   pub left_by_acceptance : (until : ℕ) → Ok until ≡ admitted rules s entry → paired s (partner_on s entry) entry until ≡ left rules s (Enter entry)
   left_by_acceptance until is =
       ap (λ (v : ℕ). paired s (partner_on s entry) entry v) (until_end until (sym is)) ∙ left_by numbered (acceptance until is)
+
+  left_as : (result : Result ℕ DayFault) → Until (unwrap_or ends 0) result
+      → after_entry result s entry ≡ cond (is_ok result) (changed rules s (Enter entry)) s
+  left_as (Ok u) fits = ap (λ (v : ℕ). paired s (partner_on s entry) entry v) (fits u refl)
+  left_as (Err fault) fits = refl
+
+pub entries_follow_the_rulings : EntriesFollowTheRulings
+entries_follow_the_rulings = record {
+  answer = λ rules s entry. ruled rules s entry (Ordered (suc (length s.orders)) (partner_on s entry));
+  after = λ rules s entry. left_as rules s entry (admitted rules s entry) (until_end rules s entry);
+}

@@ -1,5 +1,5 @@
 -- What each accepted call makes of the day, and how a call's result reads as an answer.
-use Rattle.std.specs.Prelude.{ℕ, ◌-◌, Bool, true, false, cond, not, ◌&&◌, leb, List, [], ◌∷◌, ◌++◌, map, length, set, ℤ, is_some, Some, None, Ok, Err, Option, Result, ◌==◌, nat_le, slice_set}
+use Rattle.std.specs.Prelude.{ℕ, ◌-◌, Bool, true, false, cond, not, ◌&&◌, leb, List, [], ◌∷◌, ◌++◌, map, length, ℤ, is_some, Some, None, Ok, Err, Option, Result, ◌==◌, nat_le, slice_set}
 use Rattle.std.specs.Option.{unwrap_or}
 use Rattle.rulebook.specs.declared.Letter.{Letter}
 use Rattle.rulebook.specs.Meaning.{Meaning, hours_of}
@@ -153,7 +153,7 @@ admitted_at rules s contract entry =
     then (admissible_set rules contract) (λ set.
     deny (NotOpen when not (is_some (closing_in (hours_of rules contract.product) s.minute)))
     (deny (Halted when (contract.halted && rules.halt_binds))
-    (deny (PriceNotAdmissible when not (slice_set entry.price))
+    (deny (PriceNotAdmissible when not (set entry.price))
     (Ok (unwrap_or (closing_in (hours_of rules contract.product) s.minute) 0)))))
 
 -- the checks of an entry against the contract that it names
@@ -166,6 +166,16 @@ admitted rules s entry =
     then (within_limits entry) (λ _.
     then (admitted_by_contract rules s entry) (λ until.
     deny (OrdersFull when leb 256 (length s.orders)) (Ok until)))
+
+-- the answer to an entry that came so far
+abbrev pub entered : Result ℕ DayFault → Answer → Answer
+entered (Ok until) answer = answer
+entered (Err fault) answer = Refused fault
+
+-- the day that an entry leaves
+abbrev pub after_entry : Result ℕ DayFault → State → Entry → State
+after_entry (Ok until) s entry = paired s (partner_on s entry) entry until
+after_entry (Err fault) s entry = s
 
 -- the day after an accepted call
 abbrev pub changed : Meaning → State → Call → State

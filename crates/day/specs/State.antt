@@ -14,13 +14,15 @@ use Rattle.history.specs.declared.Answer.TheVariants.{Refused}
 use Rattle.history.specs.Prices.{inside_collar, admissible_in}
 use Rattle.history.specs.Orders.{no_entry}
 use Rattle.history.specs.Board.{Board}
-use Rattle.history.specs.Rulings.{priced, collar_outside_limits}
+use Rattle.history.specs.Rulings.{priced, no_collar}
 use Rattle.day.specs.declared.collar.Collar.{Collar}
 use Rattle.day.specs.declared.contract.Contract.{Contract}
 use Rattle.day.specs.declared.order.Status.{Status}
 use Rattle.day.specs.declared.order.Status.TheVariants.{Waiting, Traded, Withdrawn, Lapsed}
 use Rattle.day.specs.declared.order.Order.{Order}
 use Rattle.day.specs.declared.state.Day.{Day}
+use Rattle.rulebook.specs.declared.rulebook.Rulebook
+use Rattle.price.specs.declared.grid.Grid
 
 -- what is said of a contract
 pub record Terms : Type 0 where
@@ -50,7 +52,7 @@ pub record State : Type 0 where
   pub contracts : List Terms
   pub orders : List Order
 
-abbrev pub view : {R G : Type 0} → Day R G → State
+abbrev pub view : {R G : Type 0} {book : Rulebook.Ghosts R G} {grid : Grid.Ghosts G} → Day R G book grid → State
 view day = record { minute = day.minute; contracts = map terms (vec_items day.contracts); orders = vec_items day.orders }
 
 abbrev pub fresh : State
@@ -95,7 +97,7 @@ collar_told (Ok collar) = Ok (collar_ends collar)
 collar_told (Err fault) = Err fault
 
 abbrev pub collar_for : ℕ → ℕ → Result (Option (ℕ × ℕ)) DayFault
-collar_for low high = cond (collar_outside_limits low high) (Err CollarOutsideLimits) (Ok (collar_of low high))
+collar_for low high = cond (no_collar low high) (Err CollarOutsideLimits) (Ok (collar_of low high))
 
 -- the ends of a collar in thousandths of a pip, or the widest
 abbrev pub collar_limits : Option (ℕ × ℕ) → ℕ × ℕ

@@ -1,6 +1,9 @@
 //! The trading day, over any rulebook.
+#![tactic(auto)]
+
 mod collar;
 mod contract;
+mod laws;
 mod matching;
 mod numbered;
 mod order;
@@ -9,5 +12,6 @@ mod state;
 
 pub use collar::Collar;
 pub use contract::Contract;
+pub use laws::entries_follow_the_rulings;
 pub use order::{Order, Status};
 pub use state::Day;

@@ -1,4 +1,4 @@
--- Worked days under the single_issue book: histories, and what they say.
+-- Worked days under the single-issue book: histories, and what they say.
 use Rattle.std.specs.Prelude.{◌≡◌, ℕ, true, false, List, [], ◌∷◌, pos}
 use Rattle.rulebook.specs.declared.Letter.TheVariants.{U}
 use Rattle.rulebook.specs.declared.RuleFault.TheVariants.{LetterLacking}

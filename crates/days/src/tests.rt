@@ -114,7 +114,7 @@ fn pairing(rt: HostRuntime) -> Result<(), Fail> {
     )
 }
 
-/// A halt stops a single_issue contract; its ask still answers. A collar narrows the band.
+/// A halt stops a single-issue contract; its ask still answers. A collar narrows the band.
 #[test]
 fn halt_and_collar(rt: HostRuntime) -> Result<(), Fail> {
     agrees(

@@ -18,7 +18,7 @@ use Rattle.history.specs.declared.faults.DayFault.TheVariants.{Price as Fraction
 use Rattle.history.specs.History.{History, opened, after, collar, collar_of}
 use Rattle.history.specs.Prices.{inside_collar, admissible_in, band_now, admissible, is_fraction}
 use Rattle.history.specs.Board.{board}
-use Rattle.history.specs.Rulings.{◌when◌, refuse, unlisted, collar_outside_limits, priced, quoted, ruled, Fixed, Lawful}
+use Rattle.history.specs.Rulings.{◌when◌, refuse, unlisted, no_collar, priced, quoted, ruled, Fixed, Lawful}
 use Rattle.history.specs.Law.{Made, AskedRight}
 use Rattle.history.proofs.Steps.{Step, step, refused, lists, posts, collars, clocks, halts, lifts, asks, enters, withdraws}
 
@@ -37,7 +37,7 @@ abbrev Collared : Option (ℕ × ℕ) → Type 0
 Collared None = Unit {0}
 Collared (Some (low, high)) = (1 ≤ low) × (high ≤ 220_000_000_000)
 
-new_collar : (low high : ℕ) (none : Bool) → (eqb low 0 && eqb high 0) ≡ none → collar_outside_limits low high ≡ false
+new_collar : (low high : ℕ) (none : Bool) → (eqb low 0 && eqb high 0) ≡ none → no_collar low high ≡ false
     → Collared (cond none None (Some (low, high)))
 new_collar low high true is within = tt
 new_collar low high false is within =

@@ -17,7 +17,7 @@ use Rattle.history.specs.History.{History, minute, letter_named}
 use Rattle.history.specs.Prices.{admissible_in, admissible, is_open, is_stopped, is_fraction}
 use Rattle.history.specs.Orders.{orders, earliest, how_many, first}
 use Rattle.history.specs.Board.{Board, board, band_on, admissible_on, closing_on, meets_on, lapses_on}
-use Rattle.history.specs.Rulings.{◌when◌, refuse, by_the_book, outside, unlisted, figure_fault, priced, quoted, collar_outside_limits, ruled}
+use Rattle.history.specs.Rulings.{◌when◌, refuse, by_the_book, outside, unlisted, figure_fault, priced, quoted, no_collar, ruled}
 
 -- what held of the day when an entry was accepted
 pub record Taken (rules : Meaning) (h : History) (entry : Entry) : Type 0 where
@@ -29,7 +29,7 @@ pub data Step (rules : Meaning) (h : History) : Call → Answer → Type 0 where
   refused : (call : Call) (fault : DayFault) → Step rules h call (Refused fault)
   lists : (product contract : ℕ) → Step rules h (List product) (Listed contract)
   posts : (contract letter value : ℕ) → Step rules h (Post contract letter value) Done
-  collars : (contract low high : ℕ) → collar_outside_limits low high ≡ false → Step rules h (Collar contract low high) Done
+  collars : (contract low high : ℕ) → no_collar low high ≡ false → Step rules h (Collar contract low high) Done
   clocks : (to count : ℕ) → minute h ≤ to → Step rules h (Clock to) (Lapsed count)
   halts : (contract : ℕ) → Step rules h (Halt contract) Done
   lifts : (contract : ℕ) → Step rules h (Lift contract) Done
@@ -74,7 +74,7 @@ module _ (rules : Meaning) (h : History) where
       (λ _. unless_when _ ContractNotListed (unlisted b contract) Done (λ _. posts contract letter value))
   view (Collar contract low high) =
       let last = refuse (ContractNotListed when unlisted b contract) Done in
-      unless_when (Collar contract low high) CollarOutsideLimits (collar_outside_limits low high) last
+      unless_when (Collar contract low high) CollarOutsideLimits (no_collar low high) last
       (λ within. unless_when _ ContractNotListed (unlisted b contract) Done (λ _. collars contract low high within))
   view (Clock to) =
       let lapsed = Lapsed (how_many (lapses_on b to) b.orders) in

@@ -49,8 +49,8 @@ figure_fault None value = Some (Figure UnknownLetter)
 figure_fault (Some letter) value = Figure ValueOverLimit when not (takes letter value)
 
 -- neither 0 and 0, nor 1 <= low <= high <= 220,000,000,000
-abbrev pub collar_outside_limits : ℕ → ℕ → Bool
-collar_outside_limits low high = not ((low == 0 && high == 0) || (nat_le 1 low && (nat_le low high && nat_le high 220_000_000_000)))
+abbrev pub no_collar : ℕ → ℕ → Bool
+no_collar low high = not ((low == 0 && high == 0) || (nat_le 1 low && (nat_le low high && nat_le high 220_000_000_000)))
 
 abbrev pub priced : Option (ℕ × ℤ) → Answer
 priced None = Refused NoAdmissiblePrice
@@ -71,7 +71,7 @@ ruled_on rules b (Post contract letter value) =
     refuse (ContractNotListed when unlisted b contract) otherwise
     Done
 ruled_on rules b (Collar contract low high) =
-    refuse (CollarOutsideLimits when collar_outside_limits low high) otherwise
+    refuse (CollarOutsideLimits when no_collar low high) otherwise
     refuse (ContractNotListed when unlisted b contract) otherwise
     Done
 ruled_on rules b (Clock to) =

@@ -1,4 +1,6 @@
 //! The vocabulary of a trading day, and the law of every day that is answered as the rules fix.
+#![tactic(auto)]
+
 mod answers;
 mod calls;
 mod faults;

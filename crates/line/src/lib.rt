@@ -1,4 +1,6 @@
 //! A broker's line of text becomes a call.
+#![tactic(auto)]
+
 mod commands;
 mod cutting;
 mod fields;

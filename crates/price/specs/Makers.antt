@@ -21,7 +21,7 @@ fraction n d = cond (from_to 0 1_000_000_000_000_000 n && from_to 1 10_000 d) (O
 abbrev pub step_grid : ℕ → Result ℕ ℕ
 step_grid step = cond (from_to 1 100_000 step) (Ok step) (Err 18)
 
--- a single_price grid: a price from 1 to the last
+-- a single-price grid: a price from 1 to the last
 abbrev pub single_price : ℕ → Result ℕ ℕ
 single_price price = cond (from_to 1 last_price price) (Ok price) (Err 18)
 

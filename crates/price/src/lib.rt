@@ -1,4 +1,6 @@
 //! Prices in pips: exact fractions, sets of prices, limits over them, and the nearest price of a set.
+#![tactic(auto)]
+
 mod faults;
 mod fraction;
 mod grid;

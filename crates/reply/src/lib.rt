@@ -1,4 +1,6 @@
 //! What a line is replied, as bytes, and why a line is refused.
+#![tactic(auto)]
+
 mod faults;
 mod replies;
 mod writing;

@@ -31,7 +31,7 @@ pub enum Letter {
     I,
     /// Previous settlement price.
     K,
-    /// Choice between the mid_price and the last price.
+    /// Choice between the mid-price and the last price.
     M,
 }
 

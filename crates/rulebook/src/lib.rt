@@ -1,4 +1,6 @@
 //! Rulebooks: figures and their letters, hours, and what a rulebook says of a product.
+#![tactic(auto)]
+
 mod band;
 mod faults;
 mod figures;

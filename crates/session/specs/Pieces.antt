@@ -1,5 +1,7 @@
 -- An input that comes in pieces: the lines that are ended are answered, the bytes after them are held.
 use Rattle.std.specs.Prelude.{◌≡◌, ℕ, ◌+◌, ◌-◌, List, [], ◌∷◌, ◌++◌, length, take, drop, vec_items}
+use Rattle.price.specs.declared.grid.Grid
+use Rattle.rulebook.specs.declared.rulebook.Rulebook
 use Rattle.rulebook.specs.Meaning.{Meaning}
 use Rattle.day.specs.State.{State, view, fresh}
 use Rattle.line.specs.Lines.{lines, ended, unended}
@@ -16,7 +18,7 @@ pub record Standing : Type 0 where
   pub came : ℕ
   pub held : List ℕ
 
-abbrev pub standing : {R G : Type 0} → Session R G → Standing
+abbrev pub standing : {R G : Type 0} {book : Rulebook.Ghosts R G} {grid : Grid.Ghosts G} → Session R G book grid → Standing
 standing session = record {
   day = view session.day;
   came = length (vec_items session.input);

@@ -1,4 +1,6 @@
 //! A day that is spoken to in lines: each line is answered by the day as the lines before it leave it.
+#![tactic(auto)]
+
 mod answering;
 mod carrying;
 mod laws;

@@ -21,7 +21,7 @@ use Rattle.history.specs.History.{History, opened, after, accepted, minute, list
 use Rattle.history.specs.Prices.{admissible_in, closing_in, is_fraction}
 use Rattle.history.specs.Orders.{Order as Came, order, orders, known, taken, withdrawn, first, hours_end, ends, waits}
 use Rattle.history.specs.Board.{Board, board, band_on, admissible_on, closing_on, meets_on}
-use Rattle.history.specs.Rulings.{◌when◌, refuse, by_the_book, outside, figure_fault, collar_outside_limits, priced, quoted, ruled_on, Lawful}
+use Rattle.history.specs.Rulings.{◌when◌, refuse, by_the_book, outside, figure_fault, no_collar, priced, quoted, ruled_on, Lawful}
 use Rattle.day.specs.declared.Order.{Order}
 use Rattle.day.specs.State.{Terms, State, fresh, just_listed, numbered, no_order, contract_at, order_at, is_waiting, board_of}
 use Rattle.history.proofs.Next.{waits-clock, waits-withdraw, waits-enter, waits-new, waits-not, waits-known, same, unnamed}
@@ -447,7 +447,7 @@ module _ (rules : Meaning) (s : State) (h : History) (lawful : Lawful rules h) (
       (λ _. unless_when (Kept (Post contract letter value)) ContractNotListed (outside (listed h) contract) _ (refused_keeps (Post contract letter value))
       (post_keeps contract letter value))
   keeps (Collar contract low high) =
-      unless_when (Kept (Collar contract low high)) CollarOutsideLimits (collar_outside_limits low high) _ (refused_keeps (Collar contract low high))
+      unless_when (Kept (Collar contract low high)) CollarOutsideLimits (no_collar low high) _ (refused_keeps (Collar contract low high))
       (λ _. unless_when (Kept (Collar contract low high)) ContractNotListed (outside (listed h) contract) _ (refused_keeps (Collar contract low high))
       (collar_keeps contract low high))
   keeps (Clock to) =

@@ -1,4 +1,6 @@
 //! Lists of calls on a day, and the law that holds after every one of them.
+#![tactic(auto)]
+
 mod laws;
 mod running;
 

@@ -1,11 +1,12 @@
 //! The calls that set up contracts: list, post, collar, halt and lift.
-ghost use Rattle.std.specs.Prelude.{◌≡◌, true};
+ghost use Rattle.std.specs.Prelude.{◌≡◌, true, is_ok, if◌then◌else◌};
 ghost use Rattle.history.specs.declared.Call.TheVariants.{List, Post, Collar, Halt, Lift};
 ghost use Rattle.rulebook.specs.Sheets.{sheet, with_figure};
 ghost use Rattle.history.specs.History.{letter_named, takes};
-ghost use Rattle.day.specs.Calls.{as_listed, as_done, letter_for};
-ghost use Rattle.day.specs.Following.{answered, left};
-ghost use Rattle.day.specs.State.{view};
+ghost use Rattle.history.specs.Rulings.{ruled_on};
+ghost use Rattle.day.specs.Calls.{as_listed, as_done, letter_for, changed};
+ghost use Rattle.day.specs.Following.{left};
+ghost use Rattle.day.specs.State.{view, board_of};
 
 use super::Day;
 use crate::contract::Contract;
@@ -15,8 +16,9 @@ use rulebook::{FigureFault, Figures, Letter, Rulebook};
 impl<R: Rulebook> Day<R> {
     /// Lists a product as the next contract, and answers the contract's number.
     pub fn list(&mut self, product: u64) -> Result<u64, DayFault>
-        ensures answer { as_listed result ≡ answered (R.Rulebook.meaning self.old.book) (view self.old) (List product) }
-        ensures after { view self.new ≡ left (R.Rulebook.meaning self.old.book) (view self.old) (List product) }
+        ensures answer { as_listed result ≡ ruled_on (R.Rulebook.meaning self.old.book) (board_of (view self.old)) (List product) }
+        ensures after { view self.new ≡ (if is_ok result then changed (R.Rulebook.meaning self.old.book) (view self.old) (List product) else view self.old) }
+        ensures leaves { view self.new ≡ left (R.Rulebook.meaning self.old.book) (view self.old) (List product) }
         ensures book { self.new.book ≡ self.old.book }
     {
         self.book.hours(product)?;
@@ -35,8 +37,9 @@ impl<R: Rulebook> Day<R> {
 
     /// Posts a figure of a contract, 0 to blank it.
     pub fn post(&mut self, contract: u64, letter: char, value: u64) -> Result<(), DayFault>
-        ensures answer { as_done result ≡ answered (R.Rulebook.meaning self.old.book) (view self.old) (Post contract letter value) }
-        ensures after { view self.new ≡ left (R.Rulebook.meaning self.old.book) (view self.old) (Post contract letter value) }
+        ensures answer { as_done result ≡ ruled_on (R.Rulebook.meaning self.old.book) (board_of (view self.old)) (Post contract letter value) }
+        ensures after { view self.new ≡ (if is_ok result then changed (R.Rulebook.meaning self.old.book) (view self.old) (Post contract letter value) else view self.old) }
+        ensures leaves { view self.new ≡ left (R.Rulebook.meaning self.old.book) (view self.old) (Post contract letter value) }
         ensures book { self.new.book ≡ self.old.book }
     {
         let letter = figure_letter(letter, value)?;
@@ -48,8 +51,9 @@ impl<R: Rulebook> Day<R> {
 
     /// Sets a contract's collar in pips, 0 and 0 to remove it.
     pub fn collar(&mut self, contract: u64, low: u64, high: u64) -> Result<(), DayFault>
-        ensures answer { as_done result ≡ answered (R.Rulebook.meaning self.old.book) (view self.old) (Collar contract low high) }
-        ensures after { view self.new ≡ left (R.Rulebook.meaning self.old.book) (view self.old) (Collar contract low high) }
+        ensures answer { as_done result ≡ ruled_on (R.Rulebook.meaning self.old.book) (board_of (view self.old)) (Collar contract low high) }
+        ensures after { view self.new ≡ (if is_ok result then changed (R.Rulebook.meaning self.old.book) (view self.old) (Collar contract low high) else view self.old) }
+        ensures leaves { view self.new ≡ left (R.Rulebook.meaning self.old.book) (view self.old) (Collar contract low high) }
         ensures book { self.new.book ≡ self.old.book }
     {
         let collar = crate::collar::Collar::new(low, high)?;
@@ -61,8 +65,9 @@ impl<R: Rulebook> Day<R> {
 
     /// Halts a contract.
     pub fn halt(&mut self, contract: u64) -> Result<(), DayFault>
-        ensures answer { as_done result ≡ answered (R.Rulebook.meaning self.old.book) (view self.old) (Halt contract) }
-        ensures after { view self.new ≡ left (R.Rulebook.meaning self.old.book) (view self.old) (Halt contract) }
+        ensures answer { as_done result ≡ ruled_on (R.Rulebook.meaning self.old.book) (board_of (view self.old)) (Halt contract) }
+        ensures after { view self.new ≡ (if is_ok result then changed (R.Rulebook.meaning self.old.book) (view self.old) (Halt contract) else view self.old) }
+        ensures leaves { view self.new ≡ left (R.Rulebook.meaning self.old.book) (view self.old) (Halt contract) }
         ensures book { self.new.book ≡ self.old.book }
     {
         let mut found = self.find(contract)?;
@@ -76,8 +81,9 @@ impl<R: Rulebook> Day<R> {
 
     /// Lifts the halt of a contract.
     pub fn lift(&mut self, contract: u64) -> Result<(), DayFault>
-        ensures answer { as_done result ≡ answered (R.Rulebook.meaning self.old.book) (view self.old) (Lift contract) }
-        ensures after { view self.new ≡ left (R.Rulebook.meaning self.old.book) (view self.old) (Lift contract) }
+        ensures answer { as_done result ≡ ruled_on (R.Rulebook.meaning self.old.book) (board_of (view self.old)) (Lift contract) }
+        ensures after { view self.new ≡ (if is_ok result then changed (R.Rulebook.meaning self.old.book) (view self.old) (Lift contract) else view self.old) }
+        ensures leaves { view self.new ≡ left (R.Rulebook.meaning self.old.book) (view self.old) (Lift contract) }
         ensures book { self.new.book ≡ self.old.book }
     {
         let mut found = self.find(contract)?;

@@ -1,11 +1,13 @@
 //! The calls of the order book: clock, withdraw and enter.
-ghost use Rattle.std.specs.Prelude.{◌≡◌, suc, ◌<◌, length, vec_len, OnOk};
+ghost use Rattle.std.specs.Prelude.{◌≡◌, suc, ◌<◌, length, is_ok, if◌then◌else◌, vec_len, OnOk};
+ghost use Rattle.history.specs.declared.Answer.TheVariants.{Ordered};
 ghost use Rattle.history.specs.declared.Call.TheVariants.{Clock, Enter, Withdraw};
 ghost use Rattle.rulebook.specs.Meaning.{hours_of};
 ghost use Rattle.history.specs.Prices.{closing_in};
-ghost use Rattle.day.specs.Calls.{as_done, as_lapsed, as_ordered, partner_on, paired, within_limits, admitted_at, admitted_by_contract, admitted};
+ghost use Rattle.history.specs.Rulings.{ruled_on};
+ghost use Rattle.day.specs.Calls.{as_done, as_lapsed, as_ordered, changed, partner_on, paired, entered, after_entry, within_limits, admitted_at, admitted_by_contract, admitted};
 ghost use Rattle.day.specs.Following.{answered, left};
-ghost use Rattle.day.specs.State.{terms, view};
+ghost use Rattle.day.specs.State.{terms, view, board_of};
 
 use super::Day;
 use crate::contract::Contract;
@@ -17,8 +19,9 @@ use rulebook::Rulebook;
 impl<R: Rulebook> Day<R> {
     /// Sets the minute, and answers how many orders lapse by it.
     pub fn clock(&mut self, to: u64) -> Result<u64, DayFault>
-        ensures answer { as_lapsed result ≡ answered (R.Rulebook.meaning self.old.book) (view self.old) (Clock to) }
-        ensures after { view self.new ≡ left (R.Rulebook.meaning self.old.book) (view self.old) (Clock to) }
+        ensures answer { as_lapsed result ≡ ruled_on (R.Rulebook.meaning self.old.book) (board_of (view self.old)) (Clock to) }
+        ensures after { view self.new ≡ (if is_ok result then changed (R.Rulebook.meaning self.old.book) (view self.old) (Clock to) else view self.old) }
+        ensures leaves { view self.new ≡ left (R.Rulebook.meaning self.old.book) (view self.old) (Clock to) }
         ensures book { self.new.book ≡ self.old.book }
     {
         if to > 1800 {
@@ -35,8 +38,9 @@ impl<R: Rulebook> Day<R> {
 
     /// Withdraws an order that waits, for its participant.
     pub fn withdraw(&mut self, number: u64, participant: u64) -> Result<(), DayFault>
-        ensures answer { as_done result ≡ answered (R.Rulebook.meaning self.old.book) (view self.old) (Withdraw number participant) }
-        ensures after { view self.new ≡ left (R.Rulebook.meaning self.old.book) (view self.old) (Withdraw number participant) }
+        ensures answer { as_done result ≡ ruled_on (R.Rulebook.meaning self.old.book) (board_of (view self.old)) (Withdraw number participant) }
+        ensures after { view self.new ≡ (if is_ok result then changed (R.Rulebook.meaning self.old.book) (view self.old) (Withdraw number participant) else view self.old) }
+        ensures leaves { view self.new ≡ left (R.Rulebook.meaning self.old.book) (view self.old) (Withdraw number participant) }
         ensures book { self.new.book ≡ self.old.book }
     {
         let order = self.order(number)?;
@@ -53,8 +57,10 @@ impl<R: Rulebook> Day<R> {
     /// Takes an order, which trades with the earliest waiting order that counters it, or waits: its number and its
     /// partner's, 0 while it waits.
     pub fn enter(&mut self, entry: Entry) -> Result<(u64, u64), DayFault>
-        ensures answer { as_ordered result ≡ answered (R.Rulebook.meaning self.old.book) (view self.old) (Enter entry) }
-        ensures after { view self.new ≡ left (R.Rulebook.meaning self.old.book) (view self.old) (Enter entry) }
+        ensures answer { as_ordered result ≡ entered (admitted (R.Rulebook.meaning self.old.book) (view self.old) entry) (Ordered (suc (length (view self.old).orders)) (partner_on (view self.old) entry)) }
+        ensures after { view self.new ≡ after_entry (admitted (R.Rulebook.meaning self.old.book) (view self.old) entry) (view self.old) entry }
+        ensures ruled { as_ordered result ≡ answered (R.Rulebook.meaning self.old.book) (view self.old) (Enter entry) }
+        ensures leaves { view self.new ≡ left (R.Rulebook.meaning self.old.book) (view self.old) (Enter entry) }
         ensures book { self.new.book ≡ self.old.book }
     {
         let until = self.admit(&entry)?;

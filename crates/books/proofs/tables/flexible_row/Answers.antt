@@ -7,5 +7,5 @@ use Rattle.books.proofs.tables.flexible_row.Goals as goal
 pub returns : goal.returns
 unfolding flexible_rule
 returns c =
-    let row = row_at flexible_rules 4 c.args.index _ _ c.requires c.flexible-table.ensures in
+    let row = row_at flexible_rules 4 c.args.index _ _ c.requires c.flexible_table.ensures in
     record { value = row; small = subst Small (sym row) (flexible_small c.args.index c.requires) }

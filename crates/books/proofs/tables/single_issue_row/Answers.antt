@@ -7,5 +7,5 @@ use Rattle.books.proofs.tables.single_issue_row.Goals as goal
 pub returns : goal.returns
 unfolding single_issue_rule
 returns c =
-    let row = row_at single_issue_rules 22 c.args.index _ _ c.requires c.single-issue-table.ensures in
+    let row = row_at single_issue_rules 22 c.args.index _ _ c.requires c.single_issue_table.ensures in
     record { value = row; small = subst Small (sym row) (single_issue_small c.args.index c.requires) }

@@ -5,7 +5,7 @@ use Rattle.day.specs.declared.order.Order.{Order}
 use Rattle.day.specs.Calls.{is_due, due_at}
 use Rattle.day.proofs.Numbering.{order_next}
 use Rattle.day.proofs.matching.count_due.Goals as goal
-use Rattle.day.proofs.matching.count_due.Goals.{then-is-due, else-is-due}
+use Rattle.day.proofs.matching.count_due.Goals.{then-is_due, else-is_due}
 
 pub loop-i-init : goal.loop-i-init
 unfolding how_many
@@ -14,16 +14,16 @@ loop-i-init c = (refl, omega arith)
 pub loop-i-preserved : goal.loop-i-preserved
 loop-i-preserved c =
     let next = ap (λ (o : Order). is_due c.args.to o) (order_next c.args.orders.now c.loop-i.i) in
-    elim c.if-is-due.branch [
-      | then-is-due w ↦ (
+    elim c.if-is_due.branch [
+      | then-is_due w ↦ (
         w.count-is ∙ add-one c.loop-i.count ∙ ap suc c.loop-i.invariant.0
-            ∙ sym (many_at _ c.loop-i.i (next ∙ sym c.is_due.ensures ∙ w.if-is-due.true))
+            ∙ sym (many_at _ c.loop-i.i (next ∙ sym c.is_due.ensures ∙ w.if-is_due.true))
             ∙ ap (λ (k : ℕ). how_many (due_at c.args.orders.now c.args.to) k) (sym (add-one c.loop-i.i)),
         omega (arith, w.count-is, c.loop-i.invariant.1),
       )
-      | else-is-due w ↦ (
+      | else-is_due w ↦ (
         w.count-is ∙ c.loop-i.invariant.0
-            ∙ sym (many_on _ c.loop-i.i (next ∙ sym c.is_due.ensures ∙ w.if-is-due.false))
+            ∙ sym (many_on _ c.loop-i.i (next ∙ sym c.is_due.ensures ∙ w.if-is_due.false))
             ∙ ap (λ (k : ℕ). how_many (due_at c.args.orders.now c.args.to) k) (sym (add-one c.loop-i.i)),
         omega (arith, w.count-is, c.loop-i.invariant.1),
       )

@@ -4,8 +4,8 @@ use Rattle.day.specs.State.{terms}
 use Rattle.day.proofs.Numbering.{inside, put_at}
 use Rattle.day.proofs.numbered.replace.Goals as goal
 
-pub offset-bounds-contracts-number : goal.offset-bounds-contracts-number
-offset-bounds-contracts-number c =
+pub offset_bounds-contracts-number : goal.offset_bounds-contracts-number
+offset_bounds-contracts-number c =
     let below : c.args.number - 1 < length c.args.contracts.now =
     omega (arith, inside (length (map terms c.args.contracts.now)) c.args.number c.requires, length-map c.args.contracts.now terms) in
     search rules

@@ -5,5 +5,5 @@ use Rattle.day.proofs.prices.asked.Goals as goal
 
 pub returns : goal.returns
 returns g c =
-    c.nearest-admissible.ensures
+    c.nearest_admissible.ensures
     ∙ asked_same (band_for (g.R.Rulebook.meaning c.args.book.now) (terms c.args.contract.now)) (terms c.args.contract.now).collar c.args.fraction.numerator c.args.fraction.divisor

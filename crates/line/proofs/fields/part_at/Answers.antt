@@ -13,10 +13,10 @@ pub returns : goal.returns
 returns c =
     let line = c.args.line.now in
     let start = c.args.start in
-    let n = c.before-first-n.result in
-    let is = c.before-first-n.ensures.value in
+    let n = c.before_first-n.result in
+    let is = c.before_first-n.ensures.value in
     record {
       part = part_is line start n (omega arith) is;
       rest = past_part line start n (omega arith) is;
-      within = omega (arith, part_long line start n (omega arith) is, simp (length-take, length-drop) at c.before-first-n.ensures.within);
+      within = omega (arith, part_long line start n (omega arith) is, simp (length-take, length-drop) at c.before_first-n.ensures.within);
     }

@@ -13,15 +13,15 @@ returns-then-start-input c =
 pub returns-then-n-rest : goal.returns-then-n-rest
 returns-then-n-rest c =
     let all = simp (length-take, length-drop) at c.if-n-rest.true in
-    let none = ended_none c.args.input.now c.args.start c.before-first-n.result c.before-first-n.ensures.value (omega arith) in
+    let none = ended_none c.args.input.now c.args.start c.before_first-n.result c.before_first-n.ensures.value (omega arith) in
     record { line = sym (ap first none); rest = none; kept = tt; within = tt }
 
 pub returns : goal.returns
 returns c =
     let input = c.args.input.now in
     let start = c.args.start in
-    let n = c.before-first-n.result in
-    let is = c.before-first-n.ensures.value in
+    let n = c.before_first-n.result in
+    let is = c.before_first-n.ensures.value in
     record {
       line = ended_is input start n is (omega arith);
       rest = past_ended input start n is (omega arith);

@@ -12,11 +12,11 @@ pub returns : goal.returns
 returns c =
     let input = c.args.input.now in
     let start = c.args.start in
-    let n = c.before-first-n.result in
-    let is = c.before-first-n.ensures.value in
+    let n = c.before_first-n.result in
+    let is = c.before_first-n.ensures.value in
     record {
       line = line_is input start n (omega arith) is;
       rest = past_line input start n (omega arith) is;
-      within = omega (arith, line_long input start n (omega arith) is, simp (length-take, length-drop) at c.before-first-n.ensures.within);
+      within = omega (arith, line_long input start n (omega arith) is, simp (length-take, length-drop) at c.before_first-n.ensures.within);
       after = after_line input start n (omega arith) is;
     }

@@ -5,5 +5,5 @@ use Rattle.price.proofs.near.beside.Goals as goal
 pub returns : goal.returns
 returns c = beside_closest _ _ _ _ _ c.args.fraction.positive (search rules)
 
-pub returns-in-err-price : goal.returns-in-err-price
-returns-in-err-price c = beside_closest _ _ _ _ _ c.args.fraction.positive (search rules)
+pub returns-in_err-price : goal.returns-in_err-price
+returns-in_err-price c = beside_closest _ _ _ _ _ c.args.fraction.positive (search rules)

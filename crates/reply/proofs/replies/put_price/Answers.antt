@@ -9,8 +9,8 @@ returns c =
     let bits = to_z-of_z w64 c.args.distance c.ranges.distance in
     record {
       items =
-          signed_at_end _ _ _ _ _ _ _ _ _ _ _ c.push-reserved.ensures.items c.push-reserved-2.ensures.items c.put-number.ensures.items c.push-reserved-3.ensures.items
-          (c.put-signed.ensures.items ∙ ap (λ z. vec_items c.push-reserved-3.new.self ++ signed_decimal z) bits) c.push-reserved-4.ensures.items;
+          signed_at_end _ _ _ _ _ _ _ _ _ _ _ c.push_reserved.ensures.items c.push_reserved-2.ensures.items c.put_number.ensures.items c.push_reserved-3.ensures.items
+          (c.put_signed.ensures.items ∙ ap (λ z. vec_items c.push_reserved-3.new.self ++ signed_decimal z) bits) c.push_reserved-4.ensures.items;
       within = search rules;
       capacity = search rules;
     }

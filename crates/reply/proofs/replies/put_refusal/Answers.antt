@@ -2,11 +2,11 @@ use Rattle.std.proofs.Common.{append_assoc, arith, rules}
 use Rattle.reply.proofs.Refusing.{two_digits}
 use Rattle.reply.proofs.replies.put_refusal.Goals as goal
 
-pub put-number-requires-2 : goal.put-number-requires-2
-put-number-requires-2 c = omega (arith, two_digits c.args.fault c.number.result c.number.ensures)
+pub put_number-requires-2 : goal.put_number-requires-2
+put_number-requires-2 c = omega (arith, two_digits c.args.fault c.number.result c.number.ensures)
 
-pub push-reserved-requires-6 : goal.push-reserved-requires-6
-push-reserved-requires-6 c = omega (arith, two_digits c.args.fault c.number.result c.number.ensures)
+pub push_reserved-requires-6 : goal.push_reserved-requires-6
+push_reserved-requires-6 c = omega (arith, two_digits c.args.fault c.number.result c.number.ensures)
 
 pub returns : goal.returns
 returns c =

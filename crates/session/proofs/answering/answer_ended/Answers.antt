@@ -19,14 +19,14 @@ loop-line-preserved g c =
     let line = c.in-Some.line.now in
     let is = c.in-Some.ensures.line in
     let rest = c.in-Some.ensures.rest in
-    let said = c.answer-line.ensures in
+    let said = c.answer_line.ensures in
     let enough : 44 * length left + vec_len was.out ≤ vec_capacity was.out = omega (arith, room, cap, c.requires) in
-    let fine : is_ok c.answer-line.result ≡ true = said.room ∙ has_room line left is (vec_len was.out) (vec_capacity was.out) enough in
+    let fine : is_ok c.answer_line.result ≡ true = said.room ∙ has_room line left is (vec_len was.out) (vec_capacity was.out) enough in
     let fewer = one_fewer line left is in
-    let rest-long : length (ended (unread c.next-ended.new.self)) ≡ length (others left) = ap (λ (ls : List (List ℕ)). length ls) rest in (
-      (λ k. vec_items c.answer-line.new.out ++ printed rules (view c.answer-line.new.day) (rest k))
+    let rest-long : length (ended (unread c.next_ended.new.self)) ≡ length (others left) = ap (λ (ls : List (List ℕ)). length ls) rest in (
+      (λ k. vec_items c.answer_line.new.out ++ printed rules (view c.answer_line.new.day) (rest k))
           ∙ bytes_turn rules _ same _ _ line left is _ fine said.after _ _ _ held said.bytes,
-      (λ k. left_by_lines rules (view c.answer-line.new.day) (rest k)) ∙ day_turn rules _ same _ _ line left is _ fine said.after _ day,
+      (λ k. left_by_lines rules (view c.answer_line.new.day) (rest k)) ∙ day_turn rules _ same _ _ line left is _ fine said.after _ day,
       said.book ∙ book,
       said.capacity ∙ cap,
       c.in-Some.ensures.kept ∙ kept,
@@ -39,10 +39,10 @@ returns g c =
     let (held, day, book, cap, kept, room) = was.invariant in
     let rules = g.R.Rulebook.meaning c.args.day.now.book in
     let s = view was.day in
-    let all : ended (unread was.reader) ≡ [] = none (ended (unread was.reader)) c.in-default.ensures.line in
-    let ended-all : ended (unread c.next-ended.new.self) ≡ [] = c.in-default.ensures.rest ∙ ap (λ (ls : List (List ℕ)). others ls) all in
+    let all : ended (unread was.reader) ≡ [] = none (ended (unread was.reader)) c.in_default.ensures.line in
+    let ended-all : ended (unread c.next_ended.new.self) ≡ [] = c.in_default.ensures.rest ∙ ap (λ (ls : List (List ℕ)). others ls) all in
     record {
-      rest = c.rest.ensures ∙ sym (all_left (unread c.next-ended.new.self) ended-all) ∙ c.in-default.ensures.kept ∙ kept;
+      rest = c.rest.ensures ∙ sym (all_left (unread c.next_ended.new.self) ended-all) ∙ c.in_default.ensures.kept ∙ kept;
       bytes = sym (append-nil (vec_items was.out)) ∙ ap (λ (ls : List (List ℕ)). vec_items was.out ++ printed rules s ls) (sym all) ∙ held;
       within = omega (arith, room);
       capacity = cap;

@@ -8,18 +8,18 @@ use Rattle.session.specs.Talk.{reply, left_by_line, printed, left_by_lines}
 use Rattle.session.proofs.Lines.{sole_line, no_line}
 use Rattle.session.proofs.answering.answer_last.Goals as goal
 
-pub returns-then-not-is-empty : goal.returns-then-not-is-empty
-returns-then-not-is-empty g c =
+pub returns-then-not-is_empty : goal.returns-then-not-is_empty
+returns-then-not-is_empty g c =
     let rules = g.R.Rulebook.meaning c.args.day.now.book in
     let s = view c.args.day.now in
     let items = vec_items c.args.out.now in
     let rest = c.args.rest.now in
-    let other : length rest ≢ 0 = eqb-false (length rest) 0 (sym c.if-not-is-empty.ensures) in
+    let other : length rest ≢ 0 = eqb-false (length rest) 0 (sym c.if-not-is_empty.ensures) in
     let some : 0 < length rest = omega arith in
     let sole : lines rest ≡ rest ∷ [] = sole_line rest c.requires.0 some in
     let long : length (lines rest) ≡ 1 = ap (λ (ls : List (List ℕ)). length ls) sole in
-    let said = c.answer-line.ensures in
-    let fine : is_ok c.answer-line.result ≡ true = said.room ∙ le-leb 44 _ (omega (arith, c.requires.1, long)) in
+    let said = c.answer_line.ensures in
+    let fine : is_ok c.answer_line.result ≡ true = said.room ∙ le-leb 44 _ (omega (arith, c.requires.1, long)) in
     record {
       bytes = said.bytes ∙ (λ k. items ++ cond (fine k) (text (reply rules s rest)) [])
           ∙ ap (λ (bytes : List ℕ). items ++ bytes) (sym (append-nil (text (reply rules s rest))))
@@ -29,12 +29,12 @@ returns-then-not-is-empty g c =
       book = said.book;
     }
 
-pub returns-else-not-is-empty : goal.returns-else-not-is-empty
-returns-else-not-is-empty g c =
+pub returns-else-not-is_empty : goal.returns-else-not-is_empty
+returns-else-not-is_empty g c =
     let rules = g.R.Rulebook.meaning c.args.day.now.book in
     let s = view c.args.day.now in
     let items = vec_items c.args.out.now in
-    let none = no_line c.args.rest.now (eqb-true (length c.args.rest.now) 0 (sym c.if-not-is-empty.ensures)) in
+    let none = no_line c.args.rest.now (eqb-true (length c.args.rest.now) 0 (sym c.if-not-is_empty.ensures)) in
     record {
       bytes = sym (append-nil items) ∙ ap (λ (ls : List (List ℕ)). items ++ printed rules s ls) (sym none);
       capacity = refl;

@@ -7,17 +7,17 @@ use Rattle.session.specs.Talk.{printed, left_by_lines}
 use Rattle.session.proofs.Lines.{two_parts, both_parts, printed_parts, left_parts}
 use Rattle.session.proofs.answering.answer_lines.Goals as goal
 
-pub answer-ended-rest-requires : goal.answer-ended-rest-requires
-answer-ended-rest-requires g c =
+pub answer_ended-rest-requires : goal.answer_ended-rest-requires
+answer_ended-rest-requires g c =
     let parts = both_parts c.args.input.now in
     omega (arith, parts, c.requires)
 
-pub answer-last-requires : goal.answer-last-requires
-answer-last-requires g c =
+pub answer_last-requires : goal.answer_last-requires
+answer_last-requires g c =
     let input = c.args.input.now in
     let parts = both_parts input in
-    let said = c.answer-ended-rest.ensures in
-    let long : length (lines c.answer-ended-rest.result.now) ≡ length (lines (unended input)) = ap (λ (rest : List ℕ). length (lines rest)) said.rest in (
+    let said = c.answer_ended-rest.ensures in
+    let long : length (lines c.answer_ended-rest.result.now) ≡ length (lines (unended input)) = ap (λ (rest : List ℕ). length (lines rest)) said.rest in (
       ap ended said.rest ∙ none_left input,
       omega (arith, parts, long, c.requires, said.within, said.capacity),
     )
@@ -28,8 +28,8 @@ returns g c =
     let s = view c.args.day.now in
     let input = c.args.input.now in
     let items = vec_items c.args.out.now in
-    let front = c.answer-ended-rest.ensures in
-    let back = c.answer-last.ensures in
+    let front = c.answer_ended-rest.ensures in
+    let back = c.answer_last.ensures in
     let same = ap g.R.Rulebook.meaning front.book in
     record {
       capacity = back.capacity ∙ front.capacity;

@@ -8,11 +8,11 @@ loop-call-preserved g c =
     let rules = g.R.Rulebook.meaning c.args.day.now.book in
     let same = ap g.R.Rulebook.meaning book in (
       answers_turn rules c.args.calls.now c.loop-call.call-index _ c.loop-call-test.true _ same _ _ _ _ _ _ held
-          c.make-answer.ensures.answer c.make-answer.ensures.after c.push-reserved.ensures.items,
+          c.make-answer.ensures.answer c.make-answer.ensures.after c.push_reserved.ensures.items,
       day_turn rules c.args.calls.now c.loop-call.call-index _ c.loop-call-test.true _ same _ _ _ day c.make-answer.ensures.after,
       c.make-answer.ensures.book ∙ book,
-      c.push-reserved.ensures.capacity ∙ cap,
-      omega (arith, c.push-reserved.ensures.len, len),
+      c.push_reserved.ensures.capacity ∙ cap,
+      omega (arith, c.push_reserved.ensures.len, len),
     )
 
 pub returns : goal.returns

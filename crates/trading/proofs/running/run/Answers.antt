@@ -9,9 +9,9 @@ returns g c =
     let rules = g.R.Rulebook.meaning c.args.day.now.book in
     record {
       room = sym (le-leb _ _ (omega (arith, c.if-calls-capacity.false, c.capacity.ensures, c.len.ensures)));
-      answers = c.make-all.ensures.answers;
-      after = c.make-all.ensures.after;
-      book = c.make-all.ensures.book;
-      capacity = c.make-all.ensures.capacity;
-      law = λ h given b is. run_upheld rules h (view c.args.day.now) _ c.args.calls.now _ _ given c.make-all.ensures.answers c.make-all.ensures.after b is;
+      answers = c.make_all.ensures.answers;
+      after = c.make_all.ensures.after;
+      book = c.make_all.ensures.book;
+      capacity = c.make_all.ensures.capacity;
+      law = λ h given b is. run_upheld rules h (view c.args.day.now) _ c.args.calls.now _ _ given c.make_all.ensures.answers c.make_all.ensures.after b is;
     }

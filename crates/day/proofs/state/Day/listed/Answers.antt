@@ -5,6 +5,6 @@ use Rattle.day.proofs.state.Day.listed.Goals as goal
 
 pub returns : goal.returns
 returns g c = record {
-  value = ap length c.as-slice.ensures.value ∙ sym (length-map (vec_items c.args.self.now.contracts) terms);
-  held = c.as-slice.ensures.len;
+  value = ap length c.as_slice.ensures.value ∙ sym (length-map (vec_items c.args.self.now.contracts) terms);
+  held = c.as_slice.ensures.len;
 }

@@ -7,8 +7,8 @@ use Rattle.day.proofs.state.Day.open.Goals as goal
 
 pub returns : goal.returns
 returns g c =
-    let made : ◌≡◌ {A = State} (record { minute = 0; contracts = map terms (vec_items c.in-ok-contracts.contracts); orders = vec_items c.in-ok-orders.orders }) fresh =
-    λ i. record { minute = 0; contracts = map terms (c.in-ok-contracts.ensures.items i); orders = c.in-ok-orders.ensures.items i } in
+    let made : ◌≡◌ {A = State} (record { minute = 0; contracts = map terms (vec_items c.in_ok-contracts.contracts); orders = vec_items c.in_ok-orders.orders }) fresh =
+    λ i. record { minute = 0; contracts = map terms (c.in_ok-contracts.ensures.items i); orders = c.in_ok-orders.ensures.items i } in
     record {
       state = made;
       book = refl;

@@ -7,4 +7,4 @@ returns c =
     let n = c.args.self.now.numerator in
     let d = c.args.self.now.divisor in
     let positive = c.args.self.now.positive in
-    simp c.div-ceil.ensures (record { value = ceiling_div n d positive; bound = omega (arith, ceiling_most n d positive) })
+    simp c.div_ceil.ensures (record { value = ceiling_div n d positive; bound = omega (arith, ceiling_most n d positive) })

@@ -8,12 +8,12 @@ use Rattle.session.proofs.Holding.{held_is}
 use Rattle.session.proofs.Lines.{lines_short, lawful_on}
 use Rattle.session.proofs.session.Session.close.Goals as goal
 
-pub answer-lines-requires : goal.answer-lines-requires
-answer-lines-requires g c =
+pub answer_lines-requires : goal.answer_lines-requires
+answer_lines-requires g c =
     let self = c.args.self.now in
     let items = vec_items self.input in
     let held = drop self.at items in
-    let cut = ap (λ (bytes : List ℕ). length (lines bytes)) (held_is c.as-slice.result.now items self.at c.as-slice.ensures.value) in
+    let cut = ap (λ (bytes : List ℕ). length (lines bytes)) (held_is c.as_slice.result.now items self.at c.as_slice.ensures.value) in
     let short = lines_short held in
     let long = length-drop self.at items in
     let whole : vec_len self.input ≡ length items = self.input.ok.0 in
@@ -26,14 +26,14 @@ returns g c =
     let s = view self.day in
     let items = vec_items self.input in
     let held = drop self.at items in
-    let cut = held_is c.as-slice.result.now items self.at c.as-slice.ensures.value in
-    let said = c.answer-lines.ensures in
+    let cut = held_is c.as_slice.result.now items self.at c.as_slice.ensures.value in
+    let said = c.answer_lines.ensures in
     let whole : vec_len self.input ≡ length items = self.input.ok.0 in
-    let after : view c.answer-lines.new.day ≡ left_by_lines rules s (lines held) = said.after ∙ ap (λ (bytes : List ℕ). left_by_lines rules s (lines bytes)) cut in
+    let after : view c.answer_lines.new.day ≡ left_by_lines rules s (lines held) = said.after ∙ ap (λ (bytes : List ℕ). left_by_lines rules s (lines bytes)) cut in
     let none : drop c.len-self.result items ≡ [] = drop_all c.len-self.result items (omega (arith, c.len-self.ensures, whole)) in
     record {
       standing = λ k. record { day = after k; came = length items; held = none k };
       replies = said.bytes ∙ (λ k. c.clear.ensures.items k ++ printed rules s (lines (cut k)));
       book = said.book;
-      law = lawful_on rules s (view c.answer-lines.new.day) (lines held) after;
+      law = lawful_on rules s (view c.answer_lines.new.day) (lines held) after;
     }

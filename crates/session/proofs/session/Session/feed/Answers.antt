@@ -8,25 +8,25 @@ use Rattle.session.proofs.Holding.{held_is, ended_short, left_over, left_less}
 use Rattle.session.proofs.Lines.{lawful_on}
 use Rattle.session.proofs.session.Session.feed.Goals as goal
 
-pub answer-ended-left-requires : goal.answer-ended-left-requires
-answer-ended-left-requires g c =
+pub answer_ended-left-requires : goal.answer_ended-left-requires
+answer_ended-left-requires g c =
     let self = c.hold.new.self in
     let items = vec_items self.input in
     let held = drop self.at items in
-    let cut = ap (λ (bytes : List ℕ). length (ended bytes)) (held_is c.as-slice.result.now items self.at c.as-slice.ensures.value) in
+    let cut = ap (λ (bytes : List ℕ). length (ended bytes)) (held_is c.as_slice.result.now items self.at c.as_slice.ensures.value) in
     let short = ended_short held in
     let long = length-drop self.at items in
     let whole : vec_len self.input ≡ length items = self.input.ok.0 in
     omega (arith, cut, short, long, whole, c.clear.ensures.len, c.clear.ensures.capacity, self.input_few, self.replies_room)
 
-pub overflow-sub-self : goal.overflow-sub-self
-overflow-sub-self g c =
+pub overflow_sub-self : goal.overflow_sub-self
+overflow_sub-self g c =
     let self = c.hold.new.self in
     let items = vec_items self.input in
     let whole : vec_len self.input ≡ length items = self.input.ok.0 in
-    let cut = held_is c.as-slice.result.now items self.at c.as-slice.ensures.value in
-    let rest : length c.answer-ended-left.result.now ≡ length (unended (drop self.at items)) =
-    ap (λ (bytes : List ℕ). length bytes) (c.answer-ended-left.ensures.rest ∙ ap unended cut) in
+    let cut = held_is c.as_slice.result.now items self.at c.as_slice.ensures.value in
+    let rest : length c.answer_ended-left.result.now ≡ length (unended (drop self.at items)) =
+    ap (λ (bytes : List ℕ). length bytes) (c.answer_ended-left.ensures.rest ∙ ap unended cut) in
     let less = left_less items self.at (omega (arith, whole, self.at_inside)) in
     omega (arith, rest, less, whole, c.len.ensures)
 
@@ -45,17 +45,17 @@ returns g c =
     let whole : vec_len self.input ≡ length items = self.input.ok.0 in
     let held-now : drop self.at items ≡ held =
     (λ k. drop (c.hold.ensures.at k) (joins k)) ∙ drop-append-le before.at first read (omega (arith, long, before.at_inside)) in
-    let cut : take (length c.as-slice.result.now - self.at) (drop self.at c.as-slice.result.now) ≡ drop self.at items =
-    held_is c.as-slice.result.now items self.at c.as-slice.ensures.value in
-    let said = c.answer-ended-left.ensures in
+    let cut : take (length c.as_slice.result.now - self.at) (drop self.at c.as_slice.result.now) ≡ drop self.at items =
+    held_is c.as_slice.result.now items self.at c.as_slice.ensures.value in
+    let said = c.answer_ended-left.ensures in
     let day = c.hold.ensures.day in
-    let after : view c.answer-ended-left.new.day ≡ left_by_lines rules s (ended held) =
+    let after : view c.answer_ended-left.new.day ≡ left_by_lines rules s (ended held) =
     said.after ∙ (λ k. left_by_lines (g.R.Rulebook.meaning (day k).book) (view (day k)) (ended ((cut ∙ held-now) k))) in
-    let rest : length c.answer-ended-left.result.now ≡ length (unended (drop self.at items)) =
+    let rest : length c.answer_ended-left.result.now ≡ length (unended (drop self.at items)) =
     ap (λ (bytes : List ℕ). length bytes) (said.rest ∙ ap unended cut) in
-    let place : c.len.result - length c.answer-ended-left.result.now ≡ length items - length (unended (drop self.at items)) =
+    let place : c.len.result - length c.answer_ended-left.result.now ≡ length items - length (unended (drop self.at items)) =
     omega (arith, rest, whole, c.len.ensures) in
-    let kept : drop (c.len.result - length c.answer-ended-left.result.now) items ≡ unended held =
+    let kept : drop (c.len.result - length c.answer_ended-left.result.now) items ≡ unended held =
     ap (λ (n : ℕ). drop n items) place ∙ left_over items self.at (omega (arith, whole, self.at_inside)) ∙ ap unended held-now in
     let came : length items ≡ length first + length read = ap (λ (bytes : List ℕ). length bytes) joins ∙ length-append first read in
     record {
@@ -63,5 +63,5 @@ returns g c =
       replies = said.bytes
           ∙ (λ k. c.clear.ensures.items k ++ printed (g.R.Rulebook.meaning (day k).book) (view (day k)) (ended ((cut ∙ held-now) k)));
       book = said.book ∙ (λ k. (day k).book);
-      law = lawful_on rules s (view c.answer-ended-left.new.day) (ended held) after;
+      law = lawful_on rules s (view c.answer_ended-left.new.day) (ended held) after;
     }

@@ -13,10 +13,10 @@ returns g c =
     let short = length-take count piece in
     let fits : vec_len self.input + length (take count piece) ≤ vec_capacity self.input =
     omega (arith, short, c.min-count.ensures, c.len.ensures, self.input_room, self.input_few) in
-    let fine : is_ok c.extend-from-slice.result ≡ true = c.extend-from-slice.ensures.succeeds fits in
+    let fine : is_ok c.extend_from_slice.result ≡ true = c.extend_from_slice.ensures.succeeds fits in
     let cut : take count piece ≡ take (65_536 - length items) piece = read_part piece (65_536 - length items) count (omega (arith, c.min-count.ensures, c.len.ensures, long)) in
     record {
-      input = c.extend-from-slice.ensures.items ∙ (λ k. cond (fine k) (items ++ take count piece) items) ∙ ap (λ (read : List ℕ). items ++ read) cut;
+      input = c.extend_from_slice.ensures.items ∙ (λ k. cond (fine k) (items ++ take count piece) items) ∙ ap (λ (read : List ℕ). items ++ read) cut;
       day = refl;
       at = refl;
     }

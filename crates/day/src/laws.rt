@@ -1,0 +1,9 @@
+//! A law of the day, on the contract of a function that does nothing else.
+ghost use Rattle.day.specs.Laws.{EntriesFollowTheRulings};
+
+/// The checks of an entry, as `enter` makes them, are those of the rulings.
+pub fn entries_follow_the_rulings() -> bool
+    ensures { EntriesFollowTheRulings }
+{
+    true
+}
