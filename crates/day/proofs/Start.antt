@@ -10,7 +10,7 @@ use Rattle.history.specs.Prices.{closing_in}
 use Rattle.history.specs.Orders.{known, waits}
 use Rattle.history.specs.Board.{board}
 use Rattle.day.specs.declared.order.Order.{Order}
-use Rattle.day.specs.State.{Terms, fresh, just_listed, no_order, is_waiting, board_of}
+use Rattle.day.specs.State.{fresh, just_listed, no_order, is_waiting, board_of}
 use Rattle.day.specs.Following.{Brings}
 use Rattle.day.proofs.Places.{numbered-none}
 

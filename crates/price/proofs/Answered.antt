@@ -1,6 +1,6 @@
 -- Each question has exactly one answer. The greatest price at or below n / d is the nearest of those at or below it,
 -- and so for the least at or above; what the search finds among them is therefore the answer.
-use Rattle.std.proofs.Common.{ℕ, ◌-◌, ◌*◌, ◌≤◌, Bool, ◌&&◌, leb, ℤ, Some, None, Option, inl, inr, le_of_mul-le-mul_right, arith}
+use Rattle.std.proofs.Common.{ℕ, ◌*◌, ◌≤◌, Bool, ◌&&◌, leb, ℤ, Some, None, Option, inl, inr, le_of_mul-le-mul_right, arith}
 use Rattle.std.proofs.lemmas.Bool.{and_parts, and_from, leb-true, le-leb, cases_lt, cases_eq}
 use Rattle.price.specs.Sets.{PriceSet, Prices}
 use Rattle.price.specs.Questions.{GreatestAtOrBelow, LeastAtOrAbove, Nearest}

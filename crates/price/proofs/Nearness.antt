@@ -1,5 +1,5 @@
 -- Which price of a set is the nearest, and that no two are.
-use Rattle.std.proofs.Common.{◌≡◌, ℕ, suc, ◌+◌, ◌-◌, ◌*◌, ◌<◌, ◌≤◌, ℤ, Some, None, Option, sym, refl, ap, ◌∙◌, inl, inr, mul-le-mul_right, suc-mul, le_of_mul-le-mul_right, arith}
+use Rattle.std.proofs.Common.{◌≡◌, ℕ, suc, ◌+◌, ◌*◌, ◌<◌, ◌≤◌, ℤ, Some, None, Option, sym, refl, ap, ◌∙◌, inl, inr, mul-le-mul_right, suc-mul, le_of_mul-le-mul_right, arith}
 use Rattle.std.proofs.lemmas.Bool.{cases_lt, cases_eq, cond_both, leb-true, leb-false}
 use Rattle.price.specs.Sets.{PriceSet, ◌among◌}
 use Rattle.price.specs.Questions.{GreatestAtOrBelow, LeastAtOrAbove, distance, Worse, signed_distance, Nearest}

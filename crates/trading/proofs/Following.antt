@@ -1,9 +1,8 @@
 -- The stored day says the board that the history says, and every call keeps it so.
-use Rattle.std.proofs.Common.{◌≡◌, ℕ, suc, ◌+◌, ◌-◌, ◌<◌, ◌≤◌, Bool, true, false, cond, not, ◌&&◌, ◌||◌, eqb, ltb, leb, ◌⊎◌, List, [], ◌∷◌, ◌++◌, length, ℤ, is_some, Some, None, Ok, Err, Option, Result, unwrap_or, sym, refl, ap, ◌∙◌, subst, inl, inr, arith}
+use Rattle.std.proofs.Common.{◌≡◌, ℕ, suc, ◌-◌, ◌<◌, ◌≤◌, Bool, true, false, cond, not, ◌&&◌, eqb, ltb, leb, ◌⊎◌, List, [], ◌∷◌, ◌++◌, length, ℤ, is_some, Some, None, Ok, Err, Option, Result, unwrap_or, sym, refl, ap, ◌∙◌, subst, inl, inr, arith}
 use Rattle.std.proofs.lemmas.List.{length-append, length-set, length-map}
-use Rattle.std.proofs.lemmas.Bool.{cond-true, cond-false, eqb-true, ltb-false, or_left, or_right, eq-eqb, ne_eqb, lt-ltb, le-ltb, lt-leb, le-leb, or_from, not_from_false, cases_eq, cases_lt, cases_order, and_left, and_parts, and_from, both_ways, not-false, not_from_true}
+use Rattle.std.proofs.lemmas.Bool.{cond-true, cond-false, eqb-true, ltb-false, eq-eqb, ne_eqb, lt-ltb, le-ltb, lt-leb, le-leb, or_from, not_from_false, cases_lt, cases_order, and_left, and_parts, and_from, both_ways, not-false, not_from_true}
 use Rattle.rulebook.specs.declared.HoursClass.{HoursClass}
-use Rattle.rulebook.specs.declared.HoursClass.TheVariants.{A, B, C, D, E}
 use Rattle.rulebook.specs.declared.RuleFault.{RuleFault}
 use Rattle.rulebook.specs.Sheets.{Sheet}
 use Rattle.rulebook.specs.Meaning.{Meaning, PricesInBand, hours_of}
@@ -17,13 +16,13 @@ use Rattle.history.specs.declared.DayFault.TheVariants.{Price as Fraction, Minut
 use Rattle.history.specs.declared.EntryField.TheVariants.{Quantity, Participant, Counterparty}
 use Rattle.price.specs.declared.PriceFault.TheVariants.{FractionOutsideLimits}
 use Rattle.price.specs.Closest.{closest}
-use Rattle.history.specs.History.{History, opened, after, accepted, minute, listed, product, figures, collar, halted, letter_named, posted_under, collar_of}
+use Rattle.history.specs.History.{History, after, accepted, minute, listed, product, figures, collar, halted, letter_named, posted_under, collar_of}
 use Rattle.history.specs.Prices.{admissible_in, closing_in, is_fraction}
-use Rattle.history.specs.Orders.{Order as Came, order, orders, known, taken, withdrawn, first, hours_end, ends, waits}
-use Rattle.history.specs.Board.{Board, board, band_on, admissible_on, closing_on, meets_on}
+use Rattle.history.specs.Orders.{Order as Came, order, orders, first, hours_end, ends, waits}
+use Rattle.history.specs.Board.{board, band_on, admissible_on, closing_on, meets_on}
 use Rattle.history.specs.Rulings.{◌when◌, refuse, by_the_book, outside, figure_fault, no_collar, priced, quoted, ruled_on, Lawful}
 use Rattle.day.specs.declared.Order.{Order}
-use Rattle.day.specs.State.{Terms, State, fresh, just_listed, numbered, no_order, contract_at, order_at, is_waiting, board_of}
+use Rattle.day.specs.State.{Terms, State, just_listed, numbered, no_order, contract_at, order_at, is_waiting, board_of}
 use Rattle.history.proofs.Next.{waits-clock, waits-withdraw, waits-enter, waits-new, waits-not, waits-known, same, unnamed}
 use Rattle.history.proofs.Kept.{known_parts, waits-parts}
 use Rattle.history.proofs.Firsts.{Nothing, Found, first_is}
@@ -33,7 +32,7 @@ use Rattle.day.specs.declared.Status.{Status}
 use Rattle.day.specs.declared.Status.TheVariants.{Waiting, Traded, Withdrawn, Lapsed as Over}
 use Rattle.day.specs.Calls.{marked, is_due, clocked, with_marked, paired, with_one_more, with_terms, with_figures, with_collar, with_halt, changed}
 use Rattle.day.proofs.Numbering.{inside}
-use Rattle.day.proofs.Places.{numbered-push, numbered-set, numbered-past, numbered-none, numbered-map}
+use Rattle.day.proofs.Places.{numbered-push, numbered-set, numbered-past, numbered-map}
 
 pub record Follows (rules : Meaning) (s : State) (h : History) : Type 0 where
   pub minute : s.minute ≡ minute h

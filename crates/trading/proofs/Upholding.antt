@@ -4,12 +4,12 @@ use Rattle.std.proofs.lemmas.List.{append_cancel_left}
 use Rattle.rulebook.specs.Meaning.{Meaning}
 use Rattle.history.specs.declared.Call.{Call}
 use Rattle.history.specs.declared.Answer.{Answer}
-use Rattle.history.specs.History.{History, opened, after, accepted}
+use Rattle.history.specs.History.{History, after, accepted}
 use Rattle.history.specs.Board.{Board, board}
 use Rattle.history.specs.Rulings.{ruled_on}
 use Rattle.history.specs.Law.{added}
 use Rattle.history.proofs.Whole.{law}
-use Rattle.day.specs.State.{State, fresh, board_of}
+use Rattle.day.specs.State.{State, board_of}
 use Rattle.day.specs.Calls.{changed}
 use Rattle.day.specs.Following.{answered, left, Brings}
 use Rattle.trading.specs.Runs.{all_answered, all_left, Upheld}

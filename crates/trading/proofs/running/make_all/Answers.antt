@@ -1,4 +1,4 @@
-use Rattle.std.proofs.Common.{◌≡◌, ◌+◌, vec_len, ap, ◌∙◌, arith}
+use Rattle.std.proofs.Common.{ap, ◌∙◌, arith}
 use Rattle.trading.proofs.Turns.{answers_turn, day_turn, answers_whole, day_whole}
 use Rattle.trading.proofs.running.make_all.Goals as goal
 
