@@ -1,7 +1,7 @@
 -- The worked cases, and what the mid-price is nearest to.
 use Rattle.std.proofs.Common.{◌≡◌, ℕ, ◌+◌, ◌≤◌, Bool, true, false, not, ◌&&◌, List, [], ◌∷◌, ℤ, pos, Some, None, Option, sym, refl, ap, subst, arith}
 use native.Mathlib.Nat.{mod_self}
-use Rattle.std.specs.List.{AllByRecursion as All}
+use Rattle.std.specs.List.{AllByRecursion}
 use Rattle.std.proofs.lemmas.Bool.{and_parts, not-true}
 use Rattle.price.specs.Sets.{multiples}
 use Rattle.price.specs.Closest.{closest}
@@ -45,18 +45,18 @@ all_right : List Case → Bool
 all_right [] = true
 all_right (c ∷ others) = (all_admitted c c.admitted && none_admitted c c.turned_away) && all_right others
 
-admitted : (c : Case) (list : List ℕ) → all_admitted c list ≡ true → All (λ price. admits c price ≡ true) list
+admitted : (c : Case) (list : List ℕ) → all_admitted c list ≡ true → AllByRecursion (λ price. admits c price ≡ true) list
 unfolding all_admitted
 admitted c [] test = tt
 admitted c (price ∷ others) test = let (first, later) = and_parts _ _ test in (first, admitted c others later)
 
-turned_away : (c : Case) (list : List ℕ) → none_admitted c list ≡ true → All (λ price. admits c price ≡ false) list
+turned_away : (c : Case) (list : List ℕ) → none_admitted c list ≡ true → AllByRecursion (λ price. admits c price ≡ false) list
 unfolding none_admitted
 turned_away c [] test = tt
 turned_away c (price ∷ others) test =
     let (first, later) = and_parts _ _ test in (not-true _ first, turned_away c others later)
 
-right : (list : List Case) → all_right list ≡ true → All Right list
+right : (list : List Case) → all_right list ≡ true → AllByRecursion Right list
 unfolding all_right
 right [] test = tt
 right (c ∷ others) test =

@@ -1,6 +1,6 @@
 -- Worked cases: products with their figures, and prices that are admitted or turned away.
 use Rattle.std.specs.Prelude.{◌≡◌, ℕ, Bool, true, false, List, [], ◌∷◌, Some, None, Ok, Err, Option, Result}
-use Rattle.std.specs.List.{AllByRecursion as All}
+use Rattle.std.specs.List.{AllByRecursion}
 use Rattle.price.specs.Sets.{multiples, between}
 use Rattle.rulebook.specs.declared.RuleFault.{RuleFault}
 use Rattle.rulebook.specs.declared.HoursClass.{HoursClass}
@@ -26,7 +26,7 @@ abbrev pub admits : Case → ℕ → Bool
 admits c price = inside (prices_of c.rules c.product c.figures) price
 
 abbrev pub Right : Case → Type 0
-Right c = All (λ price. admits c price ≡ true) c.admitted × All (λ price. admits c price ≡ false) c.turned_away
+Right c = AllByRecursion (λ price. admits c price ≡ true) c.admitted × AllByRecursion (λ price. admits c price ≡ false) c.turned_away
 
 -- last and reference price of soybeans
 abbrev pub soybeans_at : ℕ → Sheet
@@ -100,7 +100,7 @@ open_until (Ok class) now = closing class now
 open_until (Err fault) now = None
 
 pub record WorkedCasesAreRight : Type 0 where
-  pub right : All Right cases
+  pub right : AllByRecursion Right cases
   pub soybean_ends : prices_of single_issue 15 (soybeans_at 15_000)
       ≡ Ok (record { on_grid = multiples 10_000; low = 10_200_000; high = 19_800_000 })
   pub higher_soybean_ends : prices_of single_issue 15 (soybeans_at 20_000)

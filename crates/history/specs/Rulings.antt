@@ -20,9 +20,9 @@ use Rattle.history.specs.Board.{Board, board, band_on, admissible_on, closing_on
 
 infixr 20 ◌otherwise◌
 infix 25 ◌when◌
--- a fault, where its ground applies
+-- a fault, where it applies
 abbrev pub ◌when◌ : DayFault → Bool → Option DayFault
-fault when ground = cond ground (Some fault) None
+fault when applies = cond applies (Some fault) None
 
 -- refused for a fault, if there is one
 abbrev pub refuse : Option DayFault → Answer → Answer

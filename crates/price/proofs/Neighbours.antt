@@ -1,7 +1,7 @@
 -- On the multiples of a unit between two ends, a price that neither neighbour beats is the nearest.
 use Rattle.std.proofs.Common.{◌≡◌, ℕ, suc, ◌+◌, ◌-◌, ◌*◌, ◌/◌, ◌%◌, ◌<◌, ◌≤◌, Bool, true, false, not, ◌&&◌, ◌||◌, eqb, ltb, leb, ◌⊎◌, List, [], ◌∷◌, ℤ, pos, negsuc, Some, None, Option, sym, refl, ap, ◌∙◌, subst, inl, inr, mul-le-mul_right, suc-mul, lt_of_mul-lt-mul_right, arith}
 use native.Mathlib.Nat.{add-mod_right, mod-eq-sub-mod}
-use Rattle.std.specs.List.{AllByRecursion as All}
+use Rattle.std.specs.List.{AllByRecursion}
 use Rattle.std.proofs.lemmas.Nat.{le-div}
 use Rattle.std.proofs.lemmas.Bool.{and_parts, or_cases, not-true, both_ways, leb-true, ltb-true, eqb-true, cases_lt, cases_order}
 use Rattle.price.specs.Sets.{PriceSet, ◌among◌, last_price, multiples, between}
@@ -166,7 +166,7 @@ all_pass : List Case → Bool
 all_pass [] = true
 all_pass (c ∷ others) = passes c && all_pass others
 
-all_right : (list : List Case) → all_pass list ≡ true → All Right list
+all_right : (list : List Case) → all_pass list ≡ true → AllByRecursion Right list
 unfolding all_pass passes
 all_right [] test = tt
 all_right (c ∷ others) test =

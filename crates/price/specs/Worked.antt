@@ -1,6 +1,6 @@
 -- Worked cases: a fraction asked for on the multiples of a unit between two ends, and the answer worked out by hand.
 use Rattle.std.specs.Prelude.{◌≡◌, ℕ, ◌+◌, ◌-◌, ◌*◌, ◌/◌, ◌<◌, ◌≤◌, ◌⊎◌, List, [], ◌∷◌, ℤ, pos, negsuc, Some, None, Option}
-use Rattle.std.specs.List.{AllByRecursion as All}
+use Rattle.std.specs.List.{AllByRecursion}
 use Rattle.price.specs.Sets.{◌among◌, multiples, between}
 use Rattle.price.specs.Questions.{signed_distance, Worse, Nearest}
 use Rattle.price.specs.Rounding.{LastMultiple}
@@ -68,4 +68,4 @@ pub record NeighboursDecide (unit low high n d : ℕ) : Type 0 where
 
 pub record WorkedCasesAreRight : Type 0 where
   pub decided : (unit low high n d : ℕ) → 1 ≤ unit → 1 ≤ d → NeighboursDecide unit low high n d
-  pub right : All Right cases
+  pub right : AllByRecursion Right cases
