@@ -69,9 +69,9 @@ module _ (rule : Rule) (figures : Sheet) where
 
   to_admitted : (price : ℕ) → Inside prices price → Admits rule figures price
   to_admitted price inside =
-      let (in-set, low, high) = between_parts prices.low prices.high (multiples rule.unit) price inside in
+      let (in_set, low, high) = between_parts prices.low prices.high (multiples rule.unit) price inside in
       record {
-        whole_units = sets_hold_what_they_say.counted rule.unit price in-set;
+        whole_units = sets_hold_what_they_say.counted rule.unit price in_set;
         not_above = above_to rule.share price _ _ _ high;
         not_below = below_to rule.share price _ _ _ rule.unit low;
       }

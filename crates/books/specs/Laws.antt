@@ -3,7 +3,7 @@ use Rattle.std.specs.Prelude.{◌≡◌, ℕ, ◌<◌, ◌≤◌, true, ◌⊎�
 use Rattle.price.specs.Sets.{◌among◌, between}
 use Rattle.rulebook.specs.declared.Letter.{Letter}
 use Rattle.rulebook.specs.declared.Letter.TheVariants.{B, O, U, H, K}
-use Rattle.rulebook.specs.declared.HoursClass.TheVariants.{B as Class-B}
+use Rattle.rulebook.specs.declared.HoursClass.TheVariants.{B as ClassB}
 use Rattle.rulebook.specs.Sheets.{Sheet, WithinLimits}
 use Rattle.rulebook.specs.Meaning.{PricesInBand, Product, Meaning, hours_of, prices_of}
 use Rattle.books.specs.Reference.{mid_price, MidPrice}
@@ -52,7 +52,7 @@ pub record HasItsProducts (last : ℕ) (rule : ℕ → Rule) (rules : Meaning) :
 
 -- a book that has the products 1 to a last one, each with hours B, and needing the settlement price alone
 pub record HasSettlementProducts (last : ℕ) (rules : Meaning) : Type 0 where
-  pub present : (number : ℕ) → 1 ≤ number → number ≤ last → hours_of rules number ≡ Ok Class-B
+  pub present : (number : ℕ) → 1 ≤ number → number ≤ last → hours_of rules number ≡ Ok ClassB
   pub absent : (number : ℕ) → (number ≡ 0) ⊎ (last < number) → rules.product number ≡ None
   pub needed : (number : ℕ) (product : Product) → rules.product number ≡ Some product → product.needs K ≡ true
   pub no_other : (number : ℕ) (product : Product) (letter : Letter) → rules.product number ≡ Some product

@@ -28,9 +28,9 @@ nearest_small step sum price signed one small bounded near =
     let rest = mod-lt sum double in
     let next : other ≡ count * step + step = add-mul count 1 step ∙ ap (λ (x : ℕ). count * step + x) (one-mul step) in
     let twice : count * (2 * step) ≡ 2 * (count * step) = sym (mul_assoc count 2 step) ∙ ap (λ (x : ℕ). x * step) (mul_comm count 2) ∙ mul_assoc 2 count step in
-    let in-set = multiple_from step other (omega arith) (omega arith) (mul-mod_left (count + 1) step) in
+    let in_set = multiple_from step other (omega arith) (omega arith) (mul-mod_left (count + 1) step) in
     elim (cases_eq other price) [
       | inl same ↦ omega arith
       | inr differs ↦
-          elim (near.2 other in-set differs) [ inl farther ↦ omega arith | inr lower ↦ omega (arith, lower.0) ]
+          elim (near.2 other in_set differs) [ inl farther ↦ omega arith | inr lower ↦ omega (arith, lower.0) ]
     ]

@@ -241,9 +241,9 @@ module _ (figures : Sheet) (within : WithinLimits figures) where
         let (same, fits) = listed number row (from_to 1 last number) refl entry in
         let is : (row_product (written (rule number))).prices figures ≡ prices =
         ap (λ (r : Row). (row_product r).prices figures) same ∙ gives in
-        let lacks-none : lacking (needs (written (rule number))) figures ≡ None =
+        let lacks_none : lacking (needs (written (rule number))) figures ≡ None =
         ap (λ (r : Row). lacking (needs r) figures) same ∙ none in
-        (is, fits, subst Good is (row_good (written (rule number)) fits lacks-none))
+        (is, fits, subst Good is (row_good (written (rule number)) fits lacks_none))
 
 -- a book whose answers are good is sound
 pub sound : (rules : Meaning)
@@ -269,8 +269,8 @@ settled_good figures prices (Some value) is within answer =
     let worth : amount (figures K) ≡ value = ap amount is in
     subst Good same (record {
       priced = record {
-        positive = λ price in-set. omega (arith, eqb-true price (amount (figures K)) in-set);
-        bounded = λ price in-set. omega (arith, eqb-true price (amount (figures K)) in-set);
+        positive = λ price in_set. omega (arith, eqb-true price (amount (figures K)) in_set);
+        bounded = λ price in_set. omega (arith, eqb-true price (amount (figures K)) in_set);
       };
       low_least = omega arith;
       low_most = omega arith;

@@ -1,5 +1,5 @@
 -- What each accepted call makes of the day, and how a call's result reads as an answer.
-use Rattle.std.specs.Prelude.{ℕ, ◌-◌, Bool, true, false, cond, not, ◌&&◌, leb, List, [], ◌∷◌, ◌++◌, map, length, ℤ, is_some, Some, None, Ok, Err, Option, Result, ◌==◌, nat_le, slice_set}
+use Rattle.std.specs.Prelude.{ℕ, ◌-◌, Bool, true, false, cond, not, ◌&&◌, List, [], ◌∷◌, ◌++◌, map, length, ℤ, is_some, Some, None, Ok, Err, Option, Result, ◌==◌, nat_le, slice_set}
 use Rattle.std.specs.Option.{unwrap_or}
 use Rattle.rulebook.specs.declared.Letter.{Letter}
 use Rattle.rulebook.specs.Meaning.{Meaning, hours_of}
@@ -165,7 +165,7 @@ abbrev pub admitted : Meaning → State → Entry → Result ℕ DayFault
 admitted rules s entry =
     then (within_limits entry) (λ _.
     then (admitted_by_contract rules s entry) (λ until.
-    deny (OrdersFull when leb 256 (length s.orders)) (Ok until)))
+    deny (OrdersFull when nat_le 256 (length s.orders)) (Ok until)))
 
 -- the answer to an entry that came so far
 abbrev pub entered : Result ℕ DayFault → Answer → Answer

@@ -77,12 +77,12 @@ collared rules (after h call answer) contract lawful =
 -- so every admissible set is one of prices
 inside_prices : (ends : Option (ℕ × ℕ)) (set : PriceSet) → Collared ends → Prices (inside_collar ends set)
 inside_prices None set within = record {
-  positive = λ price in-set. omega (arith, (between_parts 1000 last_end set price in-set).1);
-  bounded = λ price in-set. omega (arith, (between_parts 1000 last_end set price in-set).2);
+  positive = λ price in_set. omega (arith, (between_parts 1000 last_end set price in_set).1);
+  bounded = λ price in_set. omega (arith, (between_parts 1000 last_end set price in_set).2);
 }
 inside_prices (Some (low, high)) set within = record {
-  positive = λ price in-set. omega (arith, (between_parts (1000 * low) (1000 * high) set price in-set).1, within.0);
-  bounded = λ price in-set. omega (arith, (between_parts (1000 * low) (1000 * high) set price in-set).2, within.1);
+  positive = λ price in_set. omega (arith, (between_parts (1000 * low) (1000 * high) set price in_set).1, within.0);
+  bounded = λ price in_set. omega (arith, (between_parts (1000 * low) (1000 * high) set price in_set).2, within.1);
 }
 
 -- the answer of an ask, by what the search for the nearest found

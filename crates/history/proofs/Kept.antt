@@ -194,11 +194,11 @@ counter-from one other c =
     (and_from _ _ c.sides (and_from _ _ (eq-eqb _ _ c.there) (eq-eqb _ _ c.back)))))
 
 pub counter-flip : (one other : Entry) → counters one other ≡ false → counters other one ≡ false
-counter-flip one other no-counter =
+counter-flip one other no_counter =
     elim (cases_Bool (counters other one)) [
       | inl is ↦
           (let c = counter-parts other one is in
-          absurd (both_ways (counters one other) no-counter (counter-from one other (record {
+          absurd (both_ways (counters one other) no_counter (counter-from one other (record {
             contract = sym c.contract;
             price = sym c.price;
             quantity = sym c.quantity;

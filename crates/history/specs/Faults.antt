@@ -1,6 +1,6 @@
 -- The number under which each fault of a day is refused, and its place.
 use Rattle.std.specs.Prelude.{ℕ}
-use Rattle.price.specs.Faults.{number as price-number}
+use Rattle.price.specs.Faults.{number as price_number}
 use Rattle.rulebook.specs.Faults.{figure_number, rule_number, rule_place}
 use Rattle.history.specs.declared.faults.EntryField.{EntryField}
 use Rattle.history.specs.declared.faults.EntryField.TheVariants.{Quantity, Participant, Counterparty}
@@ -8,7 +8,7 @@ use Rattle.history.specs.declared.faults.DayFault.{DayFault}
 use Rattle.history.specs.declared.faults.DayFault.TheVariants.{Price, Figure, Rule, MinuteOverLimit, CollarOutsideLimits, EntryOutsideLimits, ContractNotListed, ContractsFull, MinuteBeforePresent, HaltUnchanged, NoAdmissiblePrice, NotOpen, Halted, PriceNotAdmissible, OrdersFull, NoSuchOrder, AnotherParticipants, NotWaiting}
 
 abbrev pub number : DayFault → ℕ
-number (Price fault) = price-number fault
+number (Price fault) = price_number fault
 number (Figure fault) = figure_number fault
 number (Rule fault) = rule_number fault
 number MinuteOverLimit = 15

@@ -103,7 +103,7 @@ opposite Offer Offer = false
 -- two entries counter each other: contract, price and quantity agree, the sides differ, and each names the other's participant
 unfoldable pub counters : Entry → Entry → Bool
 counters one other =
-    (one.contract == other.contract) && (one.price == other.price && (one.quantity == other.quantity
+    one.contract == other.contract && (one.price == other.price && (one.quantity == other.quantity
     && (opposite one.side other.side
     && (one.counterparty == other.participant && other.counterparty == one.participant))))
 

@@ -1,5 +1,5 @@
 -- What each call is answered after a history, and the days that are so answered.
-use Rattle.std.specs.Prelude.{◌≡◌, ℕ, suc, Bool, cond, not, ◌&&◌, ◌||◌, ltb, leb, ℤ, is_some, Some, None, Ok, Err, Option, Result, ◌==◌, nat_le, nat_lt}
+use Rattle.std.specs.Prelude.{◌≡◌, ℕ, suc, Bool, cond, not, ◌&&◌, ◌||◌, ℤ, is_some, Some, None, Ok, Err, Option, Result, ◌==◌, nat_le, nat_lt}
 use Rattle.price.specs.declared.PriceFault.TheVariants.{FractionOutsideLimits}
 use Rattle.price.specs.Closest.{closest}
 use Rattle.rulebook.specs.declared.Letter.{Letter}
@@ -64,7 +64,7 @@ quoted band ends n d = refuse (by_the_book band) (priced (closest (admissible_in
 abbrev pub ruled_on : Meaning → Board → Call → Answer
 ruled_on rules b (List product) =
     refuse (by_the_book (hours_of rules product)) otherwise
-    refuse (ContractsFull when leb 32 b.listed) otherwise
+    refuse (ContractsFull when nat_le 32 b.listed) otherwise
     Listed (suc b.listed)
 ruled_on rules b (Post contract letter value) =
     refuse (figure_fault (letter_named letter) value) otherwise
@@ -75,8 +75,8 @@ ruled_on rules b (Collar contract low high) =
     refuse (ContractNotListed when unlisted b contract) otherwise
     Done
 ruled_on rules b (Clock to) =
-    refuse (MinuteOverLimit when ltb 1800 to) otherwise
-    refuse (MinuteBeforePresent when ltb to b.minute) otherwise
+    refuse (MinuteOverLimit when nat_lt 1800 to) otherwise
+    refuse (MinuteBeforePresent when nat_lt to b.minute) otherwise
     Lapsed (how_many (lapses_on b to) b.orders)
 ruled_on rules b (Halt contract) =
     refuse (ContractNotListed when unlisted b contract) otherwise
@@ -99,7 +99,7 @@ ruled_on rules b (Enter entry) =
     refuse (NotOpen when not (is_some (closing_on rules b entry.contract))) otherwise
     refuse (Halted when b.halted entry.contract && rules.halt_binds) otherwise
     refuse (PriceNotAdmissible when not (admissible_on rules b entry.contract entry.price)) otherwise
-    refuse (OrdersFull when leb 256 b.orders) otherwise
+    refuse (OrdersFull when nat_le 256 b.orders) otherwise
     Ordered (suc b.orders) (first (meets_on b entry) b.orders)
 ruled_on rules b (Withdraw k participant) =
     refuse (NoSuchOrder when outside b.orders k) otherwise

@@ -22,29 +22,29 @@ module _ (set : PriceSet) (n d : ℕ) where
   cut_prices : (test : ℕ → Bool) → Prices set → Prices (cut test set)
   unfolding cut
   cut_prices test prices = record {
-    positive = λ price in-set. prices.positive price (and_parts _ _ in-set).0;
-    bounded = λ price in-set. prices.bounded price (and_parts _ _ in-set).0;
+    positive = λ price in_set. prices.positive price (and_parts _ _ in_set).0;
+    bounded = λ price in_set. prices.bounded price (and_parts _ _ in_set).0;
   }
 
   -- the nearest price at or below
   below_from_nearest : (r : Option (ℕ × ℤ)) → 1 ≤ d → Nearest (cut (λ price. leb (price * d) n) set) n d r
       → GreatestAtOrBelow set n d (price_of r)
   unfolding cut price_of
-  below_from_nearest None positive near = λ p in-set.
+  below_from_nearest None positive near = λ p in_set.
       elim (cases_lt n (p * d)) [
         | inl above ↦ above
-        | inr below ↦ absurd (near p (and_from _ _ in-set (le-leb _ _ below)))
+        | inr below ↦ absurd (near p (and_from _ _ in_set (le-leb _ _ below)))
       ]
   below_from_nearest (Some (r, s)) positive near =
       let parts = and_parts _ _ near.0 in
       let under = leb-true _ _ parts.1 in (
         parts.0,
         under,
-        λ p in-set below.
+        λ p in_set below.
             elim (cases_eq p r) [
               | inl same ↦ omega arith
               | inr other ↦
-                  elim (near.2 p (and_from _ _ in-set (le-leb _ _ below)) other) [
+                  elim (near.2 p (and_from _ _ in_set (le-leb _ _ below)) other) [
                     | inl farther ↦ (let less : p * d ≤ r * d = omega arith in le_of_mul-le-mul_right less positive)
                     | inr lower ↦ omega (arith, lower.1)
                   ]
@@ -55,21 +55,21 @@ module _ (set : PriceSet) (n d : ℕ) where
   above_from_nearest : (r : Option (ℕ × ℤ)) → 1 ≤ d → Nearest (cut (λ price. leb n (price * d)) set) n d r
       → LeastAtOrAbove set n d (price_of r)
   unfolding cut price_of
-  above_from_nearest None positive near = λ p in-set.
+  above_from_nearest None positive near = λ p in_set.
       elim (cases_lt (p * d) n) [
         | inl below ↦ below
-        | inr above ↦ absurd (near p (and_from _ _ in-set (le-leb _ _ above)))
+        | inr above ↦ absurd (near p (and_from _ _ in_set (le-leb _ _ above)))
       ]
   above_from_nearest (Some (r, s)) positive near =
       let parts = and_parts _ _ near.0 in
       let over = leb-true _ _ parts.1 in (
         parts.0,
         over,
-        λ p in-set above.
+        λ p in_set above.
             elim (cases_eq p r) [
               | inl same ↦ omega arith
               | inr other ↦
-                  elim (near.2 p (and_from _ _ in-set (le-leb _ _ above)) other) [
+                  elim (near.2 p (and_from _ _ in_set (le-leb _ _ above)) other) [
                     | inl farther ↦ (let less : r * d ≤ p * d = omega arith in le_of_mul-le-mul_right less positive)
                     | inr lower ↦ (let less : r * d ≤ p * d = omega (arith, lower.0) in le_of_mul-le-mul_right less positive)
                   ]

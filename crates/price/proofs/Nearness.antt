@@ -51,28 +51,28 @@ module _ (set : PriceSet) (n d : ℕ) where
   -- the greatest below beats every price below it, the least above every price above it
   worse_below : (b : ℕ) → 1 ≤ d → GreatestAtOrBelow set n d (Some b)
       → (p : ℕ) → p among set → p * d ≤ n → (p ≡ b → ⊥) → Worse n d p b
-  worse_below b positive f p in-set below other =
-      let less : p < b = omega (arith, f.2 p in-set below) in inl (omega (arith, up d p b less, f.1))
+  worse_below b positive f p in_set below other =
+      let less : p < b = omega (arith, f.2 p in_set below) in inl (omega (arith, up d p b less, f.1))
 
   worse_above : (a : ℕ) → 1 ≤ d → LeastAtOrAbove set n d (Some a)
       → (p : ℕ) → p among set → n ≤ p * d → (p ≡ a → ⊥) → Worse n d p a
-  worse_above a positive f p in-set above other =
-      let less : a < p = omega (arith, f.2 p in-set above) in inl (omega (arith, up d a p less, f.1))
+  worse_above a positive f p in_set above other =
+      let less : a < p = omega (arith, f.2 p in_set above) in inl (omega (arith, up d a p less, f.1))
 
   -- the least above, no farther than the greatest below
   above_wins : (b a : ℕ) → 1 ≤ d → GreatestAtOrBelow set n d (Some b) → LeastAtOrAbove set n d (Some a)
       → distance n d a ≤ distance n d b → Nearest set n d (with_distance n d (Some a))
-  above_wins b a positive f g no-farther = (
+  above_wins b a positive f g no_farther = (
     g.0,
     refl,
-    λ p in-set other.
+    λ p in_set other.
         elim (cases_lt n (p * d)) [
-          | inl over ↦ worse_above a positive g p in-set (omega arith) other
+          | inl over ↦ worse_above a positive g p in_set (omega arith) other
           | inr under ↦
-              (let beyond : p * d ≤ b * d = mul-le-mul_right d (f.2 p in-set under) in
+              (let beyond : p * d ≤ b * d = mul-le-mul_right d (f.2 p in_set under) in
               elim (cases_lt (distance n d a) (distance n d p)) [
                 | inl farther ↦ inl farther
-                | inr as-far ↦
+                | inr as_far ↦
                     (let most : p ≤ a = le_of_mul-le-mul_right {m = p} {n = a} {k = d} (omega (arith, g.1)) positive in
                     inr (omega (arith, f.1, g.1), omega arith))
               ])
@@ -82,26 +82,26 @@ module _ (set : PriceSet) (n d : ℕ) where
   -- the greatest below, nearer than the least above
   below_wins : (b a : ℕ) → 1 ≤ d → GreatestAtOrBelow set n d (Some b) → LeastAtOrAbove set n d (Some a)
       → distance n d b < distance n d a → Nearest set n d (with_distance n d (Some b))
-  below_wins b a positive f g nearer-below = (
+  below_wins b a positive f g nearer_below = (
     f.0,
     refl,
-    λ p in-set other.
+    λ p in_set other.
         elim (cases_lt n (p * d)) [
           | inl over ↦
-              (let beyond : a * d ≤ p * d = mul-le-mul_right d (g.2 p in-set (omega arith)) in
+              (let beyond : a * d ≤ p * d = mul-le-mul_right d (g.2 p in_set (omega arith)) in
               inl (omega (arith, f.1, g.1)))
-          | inr under ↦ worse_below b positive f p in-set under other
+          | inr under ↦ worse_below b positive f p in_set under other
         ],
   )
 
   -- the nearer of the two neighbours of n / d is the nearest price
   pub neighbours_decide : (below above : Option ℕ) → 1 ≤ d → GreatestAtOrBelow set n d below → LeastAtOrAbove set n d above
       → Nearest set n d (with_distance n d (nearer n d below above))
-  neighbours_decide None None positive f g = λ p in-set. omega (arith, f p in-set, g p in-set)
+  neighbours_decide None None positive f g = λ p in_set. omega (arith, f p in_set, g p in_set)
   neighbours_decide (Some b) None positive f g =
-      (f.0, refl, λ p in-set other. worse_below b positive f p in-set (omega (arith, g p in-set)) other)
+      (f.0, refl, λ p in_set other. worse_below b positive f p in_set (omega (arith, g p in_set)) other)
   neighbours_decide None (Some a) positive f g =
-      (g.0, refl, λ p in-set other. worse_above a positive g p in-set (omega (arith, f p in-set)) other)
+      (g.0, refl, λ p in_set other. worse_above a positive g p in_set (omega (arith, f p in_set)) other)
   neighbours_decide (Some b) (Some a) positive f g =
       cond_both _ (Some a) (Some b) (λ (o : Option ℕ). Nearest set n d (with_distance n d o))
       (λ test. above_wins b a positive f g (leb-true _ _ test))

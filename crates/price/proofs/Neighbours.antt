@@ -30,63 +30,63 @@ module _ (unit low high n d : ℕ) (one : 1 ≤ unit) (whole : 1 ≤ d) where
   -- a multiple between two prices of the set is of the set
   inside : (lower price higher : ℕ) → lower among set → higher among set → lower ≤ price → price ≤ higher → price % unit ≡ 0
       → price among set
-  inside lower price higher in-low in-high least most even =
-      let (from_low, low_end, _) = between_parts low high (multiples unit) lower in-low in
-      let (from-high, _, high_end) = between_parts low high (multiples unit) higher in-high in
+  inside lower price higher in_low in_high least most even =
+      let (from_low, low_end, _) = between_parts low high (multiples unit) lower in_low in
+      let (from_high, _, high_end) = between_parts low high (multiples unit) higher in_high in
       let (positive, _, _) = multiple_parts unit lower from_low in
-      let (_, bounded, _) = multiple_parts unit higher from-high in
+      let (_, bounded, _) = multiple_parts unit higher from_high in
       between_from low high (multiples unit) price
       (multiple_from unit price (omega arith) (omega arith) even) (omega arith) (omega arith)
 
   even : (price : ℕ) → price among set → price % unit ≡ 0
-  even price in-set = (multiple_parts unit price (between_parts low high (multiples unit) price in-set).0).2
+  even price in_set = (multiple_parts unit price (between_parts low high (multiples unit) price in_set).0).2
 
   -- where the next price up is worse, so is every price above
   worse_up : (price other : ℕ) → price among set → (price + unit among set → Worse n d (price + unit) price)
       → other among set → price < other → Worse n d other price
-  worse_up price other in-set next in-other less =
-      let apart = unit_apart unit price other (even price in-set) (even other in-other) less in
-      let in-next = inside price (price + unit) other in-set in-other (omega arith) apart (add-mod_right price unit ∙ even price in-set) in
+  worse_up price other in_set next in_other less =
+      let apart = unit_apart unit price other (even price in_set) (even other in_other) less in
+      let in_next = inside price (price + unit) other in_set in_other (omega arith) apart (add-mod_right price unit ∙ even price in_set) in
       let near = mul-le-mul_right {m = price} {n = price + unit} d (omega arith) in
       let far = mul-le-mul_right {m = price + unit} {n = other} d apart in
-      elim (next in-next) [ inl farther ↦ inl (omega arith) | inr lower ↦ absurd (omega (arith, lower.1)) ]
+      elim (next in_next) [ inl farther ↦ inl (omega arith) | inr lower ↦ absurd (omega (arith, lower.1)) ]
 
   -- where the next price down is worse, so is every price below
   worse_down : (price other : ℕ) → price among set → (price - unit among set → Worse n d (price - unit) price)
       → other among set → other < price → Worse n d other price
-  worse_down price other in-set next in-other less =
-      let apart = unit_apart unit other price (even other in-other) (even price in-set) less in
-      let in-next = inside other (price - unit) price in-other in-set (omega arith) (omega arith)
-      (sym (mod-eq-sub-mod {n = price} {m = unit} (omega arith)) ∙ even price in-set) in
+  worse_down price other in_set next in_other less =
+      let apart = unit_apart unit other price (even other in_other) (even price in_set) less in
+      let in_next = inside other (price - unit) price in_other in_set (omega arith) (omega arith)
+      (sym (mod-eq-sub-mod {n = price} {m = unit} (omega arith)) ∙ even price in_set) in
       let near = up d (price - unit) price (omega arith) in
       let far = mul-le-mul_right {m = other} {n = price - unit} d (omega arith) in
-      let no-nearer : distance n d price ≤ distance n d other =
-      elim (next in-next) [ inl farther ↦ omega arith | inr lower ↦ omega (arith, lower.0) ] in
+      let no_nearer : distance n d price ≤ distance n d other =
+      elim (next in_next) [ inl farther ↦ omega arith | inr lower ↦ omega (arith, lower.0) ] in
       elim (cases_lt (distance n d price) (distance n d other)) [
         | inl farther ↦ inl farther
-        | inr as-far ↦ inr (omega arith, less)
+        | inr as_far ↦ inr (omega arith, less)
       ]
 
   unbeaten : (price : ℕ) → price among set
       → (price + unit among set → Worse n d (price + unit) price)
       → (price - unit among set → Worse n d (price - unit) price)
       → Nearest set n d (Some (price, signed_distance n d price))
-  unbeaten price in-set above below = (
-    in-set,
+  unbeaten price in_set above below = (
+    in_set,
     refl,
-    λ other in-other differs.
+    λ other in_other differs.
         elim (cases_order other price) [
           | inl same ↦ absurd (differs same)
-          | inr (inl less) ↦ worse_down price other in-set below in-other less
-          | inr (inr more) ↦ worse_up price other in-set above in-other more
+          | inr (inl less) ↦ worse_down price other in_set below in_other less
+          | inr (inr more) ↦ worse_up price other in_set above in_other more
         ],
   )
 
   empty : (last : ℕ) → LastMultiple unit (high / 1000) last → (1000 * last < low) ⊎ (last ≡ 0) → Nearest set n d None
-  empty last is_last nothing price in-set =
-      let (from-set, low_end, high_end) = between_parts low high (multiples unit) price in-set in
-      let (positive, _, in-units) = multiple_parts unit price from-set in
-      let most = is_last.2 price in-units (le-div price high 1000 (omega arith) (omega arith)) in
+  empty last is_last nothing price in_set =
+      let (from_set, low_end, high_end) = between_parts low high (multiples unit) price in_set in
+      let (positive, _, in_units) = multiple_parts unit price from_set in
+      let most = is_last.2 price in_units (le-div price high 1000 (omega arith) (omega arith)) in
       elim nothing [ inl below ↦ omega arith | inr none ↦ omega arith ]
 
 pub neighbours_decide : (unit low high n d : ℕ) → 1 ≤ unit → 1 ≤ d → NeighboursDecide unit low high n d
@@ -124,23 +124,23 @@ module _ (unit low high n d : ℕ) where
   not_above : (price : ℕ)
       → (not (between low high (multiples unit) (price + unit)) || ltb (distance n d price) (distance n d (price + unit))) ≡ true
       → price + unit among between low high (multiples unit) → Worse n d (price + unit) price
-  not_above price test in-set =
+  not_above price test in_set =
       elim (or_cases _ _ test) [
-        | inl out ↦ absurd (both_ways _ (not-true _ out) in-set)
+        | inl out ↦ absurd (both_ways _ (not-true _ out) in_set)
         | inr farther ↦ inl (ltb-true _ _ farther)
       ]
 
   not_below : (price : ℕ) → 1 ≤ unit → 1 ≤ price
       → (not (between low high (multiples unit) (price - unit)) || leb (distance n d price) (distance n d (price - unit))) ≡ true
       → price - unit among between low high (multiples unit) → Worse n d (price - unit) price
-  not_below price one positive test in-set =
+  not_below price one positive test in_set =
       elim (or_cases _ _ test) [
-        | inl out ↦ absurd (both_ways _ (not-true _ out) in-set)
-        | inr no-nearer ↦
+        | inl out ↦ absurd (both_ways _ (not-true _ out) in_set)
+        | inr no_nearer ↦
             elim (cases_lt (distance n d price) (distance n d (price - unit))) [
               | inl farther ↦ inl farther
-              | inr as-far ↦
-                  (let at_most = leb-true (distance n d price) (distance n d (price - unit)) no-nearer in
+              | inr as_far ↦
+                  (let at_most = leb-true (distance n d price) (distance n d (price - unit)) no_nearer in
                   let same : distance n d price ≡ distance n d (price - unit) = omega arith in
                   inr (same, omega arith))
             ]
@@ -152,12 +152,12 @@ module _ (unit low high n d : ℕ) where
       (neighbours_decide unit low high n d one whole).empty _ (last_multiple unit (high / 1000) one)
       (elim (or_cases _ _ test) [ inl below ↦ inl (ltb-true _ _ below) | inr none ↦ inr (eqb-true _ _ none) ])
   decided (Some (price, signed)) one whole test =
-      let (in-set, others) = and_parts _ _ test in
+      let (in_set, others) = and_parts _ _ test in
       let (same, neighbours) = and_parts _ _ others in
       let (above, below) = and_parts _ _ neighbours in
-      let positive = (multiple_parts unit price (between_parts low high (multiples unit) price in-set).0).0 in
+      let positive = (multiple_parts unit price (between_parts low high (multiples unit) price in_set).0).0 in
       subst (λ (s : ℤ). Nearest (between low high (multiples unit)) n d (Some (price, s))) (sym (same_signed_true _ _ same))
-      ((neighbours_decide unit low high n d one whole).unbeaten price in-set (not_above price above) (not_below price one positive below))
+      ((neighbours_decide unit low high n d one whole).unbeaten price in_set (not_above price above) (not_below price one positive below))
 
 passes : Case → Bool
 passes c = leb 1 c.unit && (leb 1 c.d && decides c.unit c.low c.high c.n c.d c.answer)
@@ -185,13 +185,13 @@ abbrev pub whole_range : ℕ
 whole_range = 1000 * last_price
 
 widened : (unit n d : ℕ) (answer : Option (ℕ × ℤ)) → Nearest (between 0 whole_range (multiples unit)) n d answer → Nearest (multiples unit) n d answer
-widened unit n d None near = λ price in-set.
-    near price (between_from 0 whole_range (multiples unit) price in-set (omega arith) (omega (arith, (multiple_parts unit price in-set).1)))
+widened unit n d None near = λ price in_set.
+    near price (between_from 0 whole_range (multiples unit) price in_set (omega arith) (omega (arith, (multiple_parts unit price in_set).1)))
 widened unit n d (Some (nearest, signed)) near = (
   (between_parts 0 whole_range (multiples unit) nearest near.0).0,
   near.1,
-  λ price in-set other.
-      near.2 price (between_from 0 whole_range (multiples unit) price in-set (omega arith) (omega (arith, (multiple_parts unit price in-set).1))) other,
+  λ price in_set other.
+      near.2 price (between_from 0 whole_range (multiples unit) price in_set (omega arith) (omega (arith, (multiple_parts unit price in_set).1))) other,
 )
 
 -- the nearest multiple of a unit, where the test of its neighbours is computed
@@ -200,7 +200,7 @@ pub nearest_multiple_by_neighbours : (unit n d price : ℕ) (signed : ℤ)
     → closest (multiples unit) n d ≡ Some (price, signed)
 nearest_multiple_by_neighbours unit n d price signed test =
     let (one, others) = and_parts _ _ test in
-    let (whole, decided-by) = and_parts _ _ others in
+    let (whole, decided_by) = and_parts _ _ others in
     sym (nearest_is_closest (multiples unit) n d (Some (price, signed)) (multiples_are_prices unit)
     (widened unit n d (Some (price, signed))
-    (decided unit 0 whole_range n d (Some (price, signed)) (leb-true 1 unit one) (leb-true 1 d whole) decided-by)))
+    (decided unit 0 whole_range n d (Some (price, signed)) (leb-true 1 unit one) (leb-true 1 d whole) decided_by)))

@@ -16,18 +16,18 @@ module _ (set : PriceSet) (n d : ℕ) where
   -- one more number, which is not of the set
   past : (top : ℕ) (o : Option ℕ) → set (suc top) ≡ false → NearestToTop top set n d o → NearestToTop (suc top) set n d o
   unfolding NearestToTop
-  past top None out b = λ p least most in-set.
+  past top None out b = λ p least most in_set.
       elim (cases_eq p (suc top)) [
-        | inl same ↦ both_ways (set p) (ap set same ∙ out) in-set
-        | inr other ↦ b p least (omega arith) in-set
+        | inl same ↦ both_ways (set p) (ap set same ∙ out) in_set
+        | inr other ↦ b p least (omega arith) in_set
       ]
   past top (Some r) out b = (
     b.0,
     omega (arith, b.1),
-    λ p least most in-set other.
+    λ p least most in_set other.
         elim (cases_eq p (suc top)) [
-          | inl same ↦ absurd (both_ways (set p) (ap set same ∙ out) in-set)
-          | inr lower ↦ b.2 p least (omega arith) in-set other
+          | inl same ↦ absurd (both_ways (set p) (ap set same ∙ out) in_set)
+          | inr lower ↦ b.2 p least (omega arith) in_set other
         ],
   )
 
@@ -35,16 +35,16 @@ module _ (set : PriceSet) (n d : ℕ) where
   replaced : (top r : ℕ) → suc top among set → NearestToTop top set n d (Some r)
       → distance n d (suc top) ≤ distance n d r → NearestToTop (suc top) set n d (Some (suc top))
   unfolding NearestToTop
-  replaced top r here b no-farther =
+  replaced top r here b no_farther =
       let before : Worse n d r (suc top) =
       elim (cases_lt (distance n d (suc top)) (distance n d r))
       [ inl less ↦ inl less | inr same ↦ inr (omega arith, omega (arith, b.1)) ] in (
         here,
         omega arith,
-        λ p least most in-set other.
+        λ p least most in_set other.
             elim (cases_eq p r) [
               | inl same ↦ subst (λ (x : ℕ). Worse n d x (suc top)) (sym same) before
-              | inr lower ↦ worse_trans n d p r (suc top) (b.2 p least (omega arith) in-set lower) before
+              | inr lower ↦ worse_trans n d p r (suc top) (b.2 p least (omega arith) in_set lower) before
             ],
       )
 
@@ -55,10 +55,10 @@ module _ (set : PriceSet) (n d : ℕ) where
   kept top r b farther = (
     b.0,
     omega (arith, b.1),
-    λ p least most in-set other.
+    λ p least most in_set other.
         elim (cases_eq p (suc top)) [
           | inl same ↦ subst (λ (x : ℕ). Worse n d x r) (sym same) (inl farther)
-          | inr lower ↦ b.2 p least (omega arith) in-set other
+          | inr lower ↦ b.2 p least (omega arith) in_set other
         ],
   )
 
@@ -66,7 +66,7 @@ module _ (set : PriceSet) (n d : ℕ) where
       → NearestToTop (suc top) set n d (nearer n d o (Some (suc top)))
   unfolding NearestToTop
   taken top None here b =
-      (here, omega arith, λ p least most in-set other. absurd (b p least (omega arith) in-set))
+      (here, omega arith, λ p least most in_set other. absurd (b p least (omega arith) in_set))
   taken top (Some r) here b =
       cond_both _ (Some (suc top)) (Some r) (NearestToTop (suc top) set n d)
       (λ test. replaced top r here b (leb-true _ _ test))
@@ -74,7 +74,7 @@ module _ (set : PriceSet) (n d : ℕ) where
 
   searched : (top : ℕ) → NearestToTop top set n d (nearest_to_top top set n d)
   unfolding NearestToTop nearest_to_top
-  searched zero = λ p least most in-set. omega arith
+  searched zero = λ p least most in_set. omega arith
   searched (suc top) =
       cond_both (set (suc top)) _ _ (NearestToTop (suc top) set n d)
       (λ here. taken top (nearest_to_top top set n d) here (searched top))
@@ -84,9 +84,9 @@ module _ (set : PriceSet) (n d : ℕ) where
   whole : (top : ℕ) (o : Option ℕ) → ((p : ℕ) → p among set → 1 ≤ p) → ((p : ℕ) → p among set → p ≤ top)
       → NearestToTop top set n d o → Nearest set n d (with_distance n d o)
   unfolding NearestToTop
-  whole top None positive bounded b = λ p in-set. b p (positive p in-set) (bounded p in-set) in-set
+  whole top None positive bounded b = λ p in_set. b p (positive p in_set) (bounded p in_set) in_set
   whole top (Some r) positive bounded b =
-      (b.0, refl, λ p in-set other. b.2 p (positive p in-set) (bounded p in-set) in-set other)
+      (b.0, refl, λ p in_set other. b.2 p (positive p in_set) (bounded p in_set) in_set other)
 
   pub closest_is_nearest : Prices set → Nearest set n d (closest set n d)
   unfolding closest

@@ -65,8 +65,8 @@ impl<G: Grid> Grid for Limit<G> {
     ghost within = { λ limit.
         let prices = G.Grid.within limit.grid in
         record {
-          positive = λ price in-set. prices.positive price (and_parts _ _ in-set).0;
-          bounded = λ price in-set. prices.bounded price (and_parts _ _ in-set).0;
+          positive = λ price in_set. prices.positive price (and_parts _ _ in_set).0;
+          bounded = λ price in_set. prices.bounded price (and_parts _ _ in_set).0;
         } };
 
     fn has(&self, price: u64) -> bool {

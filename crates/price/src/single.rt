@@ -2,7 +2,7 @@
 ghost use Rattle.std.specs.Prelude.{◌≡◌, ℕ, ◌≤◌};
 ghost use Rattle.price.specs.Makers.{told, single_price};
 ghost use Rattle.price.specs.Sets.{last_price, single};
-ghost use Rattle.std.proofs.Common.{rules, arith};
+ghost use Rattle.std.proofs.Common.{rules};
 
 use super::faults::PriceFault;
 use super::fraction::Fraction;
@@ -31,7 +31,7 @@ impl SinglePrice {
 impl Grid for SinglePrice {
     ghost holds = { λ grid. single grid.price };
 
-    ghost within = { first_of (Prim.search rules, Prim.grind (arith, Self.row.coded.inj)) };
+    ghost within = { Prim.search rules };
 
     fn has(&self, price: u64) -> bool {
         price == self.price

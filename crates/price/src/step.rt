@@ -2,7 +2,7 @@
 ghost use Rattle.std.specs.Prelude.{◌≡◌, ℕ, ◌≤◌};
 ghost use Rattle.price.specs.Makers.{told, step_grid};
 ghost use Rattle.price.specs.Sets.{multiples};
-ghost use Rattle.std.proofs.Common.{rules, arith};
+ghost use Rattle.std.proofs.Common.{rules};
 
 use super::faults::PriceFault;
 use super::fraction::Fraction;
@@ -34,7 +34,7 @@ impl StepGrid {
 impl Grid for StepGrid {
     ghost holds = { λ grid. multiples grid.step };
 
-    ghost within = { first_of (Prim.search rules, Prim.grind (arith, Self.row.coded.inj)) };
+    ghost within = { Prim.search rules };
 
     fn has(&self, price: u64) -> bool {
         1 <= price && price <= LAST_PRICE && price % self.step == 0

@@ -1,7 +1,7 @@
 -- The numbers of refusals have at most two digits.
 use Rattle.std.proofs.Common.{◌≡◌, ℕ, ◌<◌, ◌≤◌, length, decimal, arith}
 use Rattle.std.proofs.lemmas.Fmt.{length-decimal-le}
-use Rattle.price.specs.Faults.{number as price-number}
+use Rattle.price.specs.Faults.{number as price_number}
 use Rattle.price.specs.declared.faults.PriceFault.{PriceFault}
 use Rattle.price.specs.declared.faults.PriceFault.TheVariants.{FractionOutsideLimits, GridOutOfBounds}
 use Rattle.rulebook.specs.Faults.{figure_number, rule_number}
@@ -9,14 +9,14 @@ use Rattle.rulebook.specs.declared.faults.FigureFault.{FigureFault}
 use Rattle.rulebook.specs.declared.faults.FigureFault.TheVariants.{UnknownLetter, ValueOverLimit}
 use Rattle.rulebook.specs.declared.faults.RuleFault.{RuleFault}
 use Rattle.rulebook.specs.declared.faults.RuleFault.TheVariants.{ProductAbsent, LetterLacking}
-use Rattle.history.specs.Faults.{number as day-number}
+use Rattle.history.specs.Faults.{number as day_number}
 use Rattle.history.specs.declared.faults.DayFault.{DayFault}
 use Rattle.history.specs.declared.faults.DayFault.TheVariants.{Price, Figure, Rule, MinuteOverLimit, CollarOutsideLimits, EntryOutsideLimits, ContractNotListed, ContractsFull, MinuteBeforePresent, HaltUnchanged, NoAdmissiblePrice, NotOpen, Halted, PriceNotAdmissible, OrdersFull, NoSuchOrder, AnotherParticipants, NotWaiting}
 use Rattle.reply.specs.Faults.{number}
 use Rattle.reply.specs.declared.faults.LineFault.{LineFault}
 use Rattle.reply.specs.declared.faults.LineFault.TheVariants.{LineTooLong, NotACommand, WrongNumberOfFields, BadField, Day as OfDay}
 
-price_small : (fault : PriceFault) → price-number fault < 100
+price_small : (fault : PriceFault) → price_number fault < 100
 price_small FractionOutsideLimits = omega arith
 price_small GridOutOfBounds = omega arith
 
@@ -28,7 +28,7 @@ rule_small : (fault : RuleFault) → rule_number fault < 100
 rule_small ProductAbsent = omega arith
 rule_small (LetterLacking letter) = omega arith
 
-day_small : (fault : DayFault) → day-number fault < 100
+day_small : (fault : DayFault) → day_number fault < 100
 day_small (Price fault) = price_small fault
 day_small (Figure fault) = figure_small fault
 day_small (Rule fault) = rule_small fault

@@ -1,6 +1,6 @@
 -- The number under which each line is refused, its place, and the layer that refuses.
 use Rattle.std.specs.Prelude.{ℕ}
-use Rattle.history.specs.Faults.{number as day-number, place as day-place}
+use Rattle.history.specs.Faults.{number as day_number, place as day_place}
 use Rattle.history.specs.declared.faults.DayFault.{DayFault}
 use Rattle.history.specs.declared.faults.DayFault.TheVariants.{Price, Figure, Rule, MinuteOverLimit, CollarOutsideLimits, EntryOutsideLimits, ContractNotListed, ContractsFull, MinuteBeforePresent, HaltUnchanged, NoAdmissiblePrice, NotOpen, Halted, PriceNotAdmissible, OrdersFull, NoSuchOrder, AnotherParticipants, NotWaiting}
 use Rattle.reply.specs.declared.faults.Layer.{Layer}
@@ -19,14 +19,14 @@ number LineTooLong = 1
 number NotACommand = 2
 number WrongNumberOfFields = 3
 number (BadField position) = 4
-number (OfDay fault) = day-number fault
+number (OfDay fault) = day_number fault
 
 abbrev pub place : LineFault → ℕ
 place LineTooLong = 0
 place NotACommand = 0
 place WrongNumberOfFields = 0
 place (BadField position) = position
-place (OfDay fault) = day-place fault
+place (OfDay fault) = day_place fault
 
 -- what a rulebook raises is the rulebook's, everything else of a day the day's
 abbrev pub day_layer : DayFault → Layer

@@ -98,7 +98,7 @@ most_at letter value small = subst (λ (top : ℕ). value ≤ top) (same_most le
 -- the figures of every sheet are within their limits
 fits_parts : (place value : ℕ) → fits place (Some value) ≡ true → (1 ≤ value) × (value ≤ cond (eqb place 12) 2 100_000_000_000)
 fits_parts place value test =
-    let (least, most-of) = and_parts (leb 1 value) _ test in (leb-true 1 value least, leb-true value _ most-of)
+    let (least, most_of) = and_parts (leb 1 value) _ test in (leb-true 1 value least, leb-true value _ most_of)
 
 pub within_limits : (figures : Figures) → WithinLimits (sheet figures)
 within_limits figures = record {

@@ -49,9 +49,9 @@ fn a_piece_leaves_what_is_not_ended(rt: HostRuntime) {
     assert!(rt; reader.next_ended() == Some(b"C 1"));
     assert!(rt; reader.next_ended() == Some(b""));
     assert!(rt; reader.next_ended() == None);
-    assert!(rt; reader.rest() == b"L");
+    assert!(rt; reader.rest() == b"L".as_slice());
     assert!(rt; reader.next_line() == Some(b"L"));
-    assert!(rt; reader.rest() == b"");
+    assert!(rt; reader.rest() == b"".as_slice());
 }
 
 #[test]

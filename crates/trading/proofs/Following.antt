@@ -148,13 +148,13 @@ module _ (rules : Meaning) (s : State) (h : History) (lawful : Lawful rules h) (
         kept ∙ sym (ap (λ (n : ℕ). part (contract_at s n)) (eqb-true c contract is)))
 
     -- the part that was changed
-    as_changed : {B : Type 0} (part : Terms → B) (said : B → B) (of-history : ℕ → B) (c : ℕ) → part terms ≡ said (part (contract_at s contract))
-        → ((n : ℕ) → part (contract_at s n) ≡ of-history n)
-        → part (contract_at altered c) ≡ cond (eqb c contract) (said (of-history c)) (of-history c)
-    as_changed part said of-history c is same =
+    as_changed : {B : Type 0} (part : Terms → B) (said : B → B) (of_history : ℕ → B) (c : ℕ) → part terms ≡ said (part (contract_at s contract))
+        → ((n : ℕ) → part (contract_at s n) ≡ of_history n)
+        → part (contract_at altered c) ≡ cond (eqb c contract) (said (of_history c)) (of_history c)
+    as_changed part said of_history c is same =
         ap part (at_altered c) ∙ of_cond part (eqb c contract) terms (contract_at s c) ∙ by_test (eqb c contract) refl
       where
-        by_test : (test : Bool) → eqb c contract ≡ test → cond test (part terms) (part (contract_at s c)) ≡ cond test (said (of-history c)) (of-history c)
+        by_test : (test : Bool) → eqb c contract ≡ test → cond test (part terms) (part (contract_at s c)) ≡ cond test (said (of_history c)) (of_history c)
         by_test true here = is ∙ ap said (ap (λ (n : ℕ). part (contract_at s n)) (sym (eqb-true c contract here)) ∙ same c)
         by_test false here = same c
 
@@ -414,10 +414,10 @@ module _ (rules : Meaning) (s : State) (h : History) (lawful : Lawful rules h) (
     enter_keeps : is_some (closing_on rules (board rules h) entry.contract) ≡ true
         → Kept (Enter entry) (Ordered (suc (orders h)) (first (meets_on (board rules h) entry) (orders h)))
     enter_keeps trades =
-        let same-days : board_of s ≡ board rules h = same_board rules s h f in
+        let same_days : board_of s ≡ board rules h = same_board rules s h f in
         let p = first (meets_on (board rules h) entry) (orders h) in
         subst (λ (t : State). Follows rules t (after h (Enter entry) (Ordered (suc (orders h)) p)))
-        (sym (λ i. paired s (first (meets_on (same-days i) entry) (same-days i).orders) entry (unwrap_or (closing_on rules (same-days i) entry.contract) 0)))
+        (sym (λ i. paired s (first (meets_on (same_days i) entry) (same_days i).orders) entry (unwrap_or (closing_on rules (same_days i) entry.contract) 0)))
         (entered_by p trades (found (first_is (meets_on (board rules h) entry) (orders h))))
       where
         found : Nothing (meets_on (board rules h) entry) (orders h) (first (meets_on (board rules h) entry) (orders h))

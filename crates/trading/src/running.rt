@@ -69,46 +69,46 @@ fn make_all<R: Rulebook>(day: &mut Day<R>, calls: &[Call], answers: &mut Vec<Ans
 }
 
 /// Results as answers.
-fn listed(res: Result<u64, DayFault>) -> Answer
-    ensures { result ≡ as_listed res }
+fn listed(outcome: Result<u64, DayFault>) -> Answer
+    ensures { result ≡ as_listed outcome }
 {
-    match res {
+    match outcome {
         Ok(contract) => Answer::Listed(contract),
         Err(fault) => Answer::Refused(fault),
     }
 }
 
-fn done(res: Result<(), DayFault>) -> Answer
-    ensures { result ≡ as_done res }
+fn done(outcome: Result<(), DayFault>) -> Answer
+    ensures { result ≡ as_done outcome }
 {
-    match res {
+    match outcome {
         Ok(()) => Answer::Done,
         Err(fault) => Answer::Refused(fault),
     }
 }
 
-fn lapsed(res: Result<u64, DayFault>) -> Answer
-    ensures { result ≡ as_lapsed res }
+fn lapsed(outcome: Result<u64, DayFault>) -> Answer
+    ensures { result ≡ as_lapsed outcome }
 {
-    match res {
+    match outcome {
         Ok(count) => Answer::Lapsed(count),
         Err(fault) => Answer::Refused(fault),
     }
 }
 
-fn priced(res: Result<(u64, i64), DayFault>) -> Answer
-    ensures { result ≡ as_price res }
+fn priced(outcome: Result<(u64, i64), DayFault>) -> Answer
+    ensures { result ≡ as_price outcome }
 {
-    match res {
+    match outcome {
         Ok((price, distance)) => Answer::Price(price, distance),
         Err(fault) => Answer::Refused(fault),
     }
 }
 
-fn ordered(res: Result<(u64, u64), DayFault>) -> Answer
-    ensures { result ≡ as_ordered res }
+fn ordered(outcome: Result<(u64, u64), DayFault>) -> Answer
+    ensures { result ≡ as_ordered outcome }
 {
-    match res {
+    match outcome {
         Ok((order, partner)) => Answer::Ordered(order, partner),
         Err(fault) => Answer::Refused(fault),
     }

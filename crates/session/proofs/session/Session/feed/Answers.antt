@@ -43,25 +43,25 @@ returns g c =
     let joins = c.hold.ensures.input in
     let long : vec_len before.input ≡ length first = before.input.ok.0 in
     let whole : vec_len self.input ≡ length items = self.input.ok.0 in
-    let held-now : drop self.at items ≡ held =
+    let held_now : drop self.at items ≡ held =
     (λ k. drop (c.hold.ensures.at k) (joins k)) ∙ drop-append-le before.at first read (omega (arith, long, before.at_inside)) in
     let cut : take (length c.as_slice.result.now - self.at) (drop self.at c.as_slice.result.now) ≡ drop self.at items =
     held_is c.as_slice.result.now items self.at c.as_slice.ensures.value in
     let said = c.answer_ended-left.ensures in
     let day = c.hold.ensures.day in
     let after : view c.answer_ended-left.new.day ≡ left_by_lines rules s (ended held) =
-    said.after ∙ (λ k. left_by_lines (g.R.Rulebook.meaning (day k).book) (view (day k)) (ended ((cut ∙ held-now) k))) in
+    said.after ∙ (λ k. left_by_lines (g.R.Rulebook.meaning (day k).book) (view (day k)) (ended ((cut ∙ held_now) k))) in
     let rest : length c.answer_ended-left.result.now ≡ length (unended (drop self.at items)) =
     ap (λ (bytes : List ℕ). length bytes) (said.rest ∙ ap unended cut) in
     let place : c.len.result - length c.answer_ended-left.result.now ≡ length items - length (unended (drop self.at items)) =
     omega (arith, rest, whole, c.len.ensures) in
     let kept : drop (c.len.result - length c.answer_ended-left.result.now) items ≡ unended held =
-    ap (λ (n : ℕ). drop n items) place ∙ left_over items self.at (omega (arith, whole, self.at_inside)) ∙ ap unended held-now in
+    ap (λ (n : ℕ). drop n items) place ∙ left_over items self.at (omega (arith, whole, self.at_inside)) ∙ ap unended held_now in
     let came : length items ≡ length first + length read = ap (λ (bytes : List ℕ). length bytes) joins ∙ length-append first read in
     record {
       standing = λ k. record { day = after k; came = came k; held = kept k };
       replies = said.bytes
-          ∙ (λ k. c.clear.ensures.items k ++ printed (g.R.Rulebook.meaning (day k).book) (view (day k)) (ended ((cut ∙ held-now) k)));
+          ∙ (λ k. c.clear.ensures.items k ++ printed (g.R.Rulebook.meaning (day k).book) (view (day k)) (ended ((cut ∙ held_now) k)));
       book = said.book ∙ (λ k. (day k).book);
       law = lawful_on rules s (view c.answer_ended-left.new.day) (ended held) after;
     }
