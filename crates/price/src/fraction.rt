@@ -25,7 +25,7 @@ impl Fraction {
     pub fn new(n: u64, d: u64) -> Result<Fraction, PriceFault>
         ensures { told (λ f. (f.numerator, f.divisor)) result ≡ fraction n d }
     {
-        if n <= Self::MOST_NUMERATOR && 1 <= d && d <= Self::MOST_DIVISOR {
+        if n <= Self::MOST_NUMERATOR && (1..=Self::MOST_DIVISOR).contains(&d) {
             Ok(Fraction {
                 numerator: n,
                 divisor: d,

@@ -70,11 +70,7 @@ impl<G: Grid> Grid for Limit<G> {
         } };
 
     fn has(&self, price: u64) -> bool {
-        if !self.grid.has(price) {
-            return false;
-        }
-        let thousandths = 1000 * price;
-        self.low <= thousandths && thousandths <= self.high
+        self.grid.has(price) && (self.low..=self.high).contains(&(1000 * price))
     }
 
     fn at_or_below(&self, fraction: Fraction) -> Option<u64> {

@@ -20,7 +20,7 @@ impl SinglePrice {
     pub fn new(price: u64) -> Result<SinglePrice, PriceFault>
         ensures { told (λ grid. grid.price) result ≡ single_price price }
     {
-        if 1 <= price && price <= LAST_PRICE {
+        if (1..=LAST_PRICE).contains(&price) {
             Ok(SinglePrice { price })
         } else {
             Err(PriceFault::GridOutOfBounds)
@@ -38,18 +38,10 @@ impl Grid for SinglePrice {
     }
 
     fn at_or_below(&self, fraction: Fraction) -> Option<u64> {
-        if self.price * fraction.divisor() <= fraction.numerator() {
-            Some(self.price)
-        } else {
-            None
-        }
+        (self.price * fraction.divisor() <= fraction.numerator()).then_some(self.price)
     }
 
     fn at_or_above(&self, fraction: Fraction) -> Option<u64> {
-        if fraction.numerator() <= self.price * fraction.divisor() {
-            Some(self.price)
-        } else {
-            None
-        }
+        (fraction.numerator() <= self.price * fraction.divisor()).then_some(self.price)
     }
 }

@@ -23,7 +23,7 @@ impl StepGrid {
     pub fn new(step: u64) -> Result<StepGrid, PriceFault>
         ensures { told (λ grid. grid.step) result ≡ step_grid step }
     {
-        if 1 <= step && step <= Self::MOST_STEP {
+        if (1..=Self::MOST_STEP).contains(&step) {
             Ok(StepGrid { step })
         } else {
             Err(PriceFault::GridOutOfBounds)
@@ -37,22 +37,18 @@ impl Grid for StepGrid {
     ghost within = { Prim.search rules };
 
     fn has(&self, price: u64) -> bool {
-        1 <= price && price <= LAST_PRICE && price % self.step == 0
+        (1..=LAST_PRICE).contains(&price) && price % self.step == 0
     }
 
     fn at_or_below(&self, fraction: Fraction) -> Option<u64> {
         let most = fraction.floor().min(LAST_PRICE);
         let price = last_multiple(self.step, most);
-        if price == 0 { None } else { Some(price) }
+        (price > 0).then_some(price)
     }
 
     fn at_or_above(&self, fraction: Fraction) -> Option<u64> {
         let least = fraction.ceiling().max(1);
         let price = first_multiple(self.step, least);
-        if price <= LAST_PRICE {
-            Some(price)
-        } else {
-            None
-        }
+        (price <= LAST_PRICE).then_some(price)
     }
 }

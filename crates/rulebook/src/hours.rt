@@ -30,9 +30,5 @@ impl HoursClass {
 fn until(last: u64, first: u64, minute: u64) -> Option<u64>
     ensures { result ≡ ending ((first, last) ∷ []) minute }
 {
-    if first <= minute && minute < last {
-        Some(last)
-    } else {
-        None
-    }
+    (first..last).contains(&minute).then_some(last)
 }

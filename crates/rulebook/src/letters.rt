@@ -3,6 +3,7 @@ ghost use Rattle.std.specs.Prelude.{◌≡◌, Some};
 ghost use Rattle.rulebook.specs.Letters.{rank, same, letter_of, most};
 ghost use Rattle.rulebook.specs.Words.{letter_text};
 
+use super::faults::FigureFault;
 use std::fmt;
 
 #[derive(Clone, Copy, PartialEq, Eq, Debug)]
@@ -84,7 +85,7 @@ impl Letter {
     pub fn is(self, other: Letter) -> bool
         ensures { result ≡ same self other }
     {
-        self.rank() == other.rank()
+        self == other
     }
 
     /// The most that may be posted under the letter.
@@ -95,6 +96,21 @@ impl Letter {
             Letter::M => 2,
             _ => 100_000_000_000,
         }
+    }
+}
+
+impl TryFrom<char> for Letter {
+    ghost use Rattle.std.specs.Prelude.{◌≡◌};
+    ghost use Rattle.std.specs.Option.{ok_or};
+    ghost use Rattle.rulebook.specs.Letters.{letter_of};
+    ghost use Rattle.rulebook.specs.declared.faults.FigureFault.TheVariants.{UnknownLetter};
+
+    type Error = FigureFault;
+
+    ghost try_from_gives = { λ character r. r ≡ ok_or (letter_of character) UnknownLetter };
+
+    fn try_from(character: char) -> Result<Letter, FigureFault> {
+        Letter::from_char(character).ok_or(FigureFault::UnknownLetter)
     }
 }
 

@@ -42,5 +42,5 @@ impl Figures {
 fn figure(value: u64) -> Option<u64>
     ensures { result ≡ posted value }
 {
-    if value == 0 { None } else { Some(value) }
+    (value != 0).then_some(value)
 }

@@ -12,12 +12,8 @@ invariant_of-self c =
           (fits_written c.args.self.now.values (rank c.args.letter - 1) c.args.value place inside (most_at _ _ small) c.args.self.now.within);
     }
 
-pub returns : goal.returns
-returns c =
+pub returns-clause-after : goal.returns-clause-after
+returns-clause-after c =
     let inside : rank c.args.letter - 1 < length c.args.self.now.values = search rules in
     let small : c.args.value ≤ most c.args.letter = search rules in
-    record {
-      value = search rules;
-      after = sheet_written c.args.self.now.values c.args.letter c.args.value _ _ c.rank-place.ensures c.figure.ensures inside small;
-      same = tt;
-    }
+    sheet_written c.args.self.now.values c.args.letter c.args.value _ _ c.rank-place.ensures c.figure.ensures inside small
