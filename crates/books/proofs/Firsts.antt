@@ -1,5 +1,7 @@
 -- The steps of a search for the first letter that passes a test.
-use Rattle.std.proofs.Common.{◌≡◌, ℕ, ◌+◌, ◌<◌, ◌≤◌, Bool, true, false, cond, List, length, get_or, drop, Some, None, ap, ◌∙◌}
+use Rattle.std.proofs.Common.{◌≡◌, ℕ, ◌+◌, ◌<◌, ◌≤◌, Bool, true, false, cond, List, [], ◌∷◌, length, get_or, drop, Some, None, Option, refl, ap, ◌∙◌}
+use Rattle.std.specs.List.{find}
+use Rattle.std.specs.Option.{option_map}
 use Rattle.std.proofs.lemmas.List.{at_drop_more, at_drop_all}
 use Rattle.rulebook.specs.declared.Letter.{Letter}
 use Rattle.rulebook.specs.Meaning.{first}
@@ -17,3 +19,13 @@ module _ (test : Letter → Bool) (list : List Letter) (i : ℕ) (blank : Letter
 
 pub first_none : (test : Letter → Bool) (list : List Letter) (i : ℕ) → length list ≤ i → first test (drop i list) ≡ None
 first_none test list i past = at_drop_all (first test) list i past
+
+-- the library's search is this one
+pub find_first : (test : Letter → Bool) (list : List Letter) → find test list ≡ first test list
+find_first test [] = refl
+find_first test (letter ∷ later) = ap (cond (test letter) (Some letter)) (find_first test later)
+
+-- of an answer that is told as it is
+pub found_as_it_is : (found : Option Letter) → found ≡ option_map (λ letter. letter) found
+found_as_it_is None = refl
+found_as_it_is (Some letter) = refl

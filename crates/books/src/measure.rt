@@ -5,76 +5,131 @@ ghost use Rattle.rulebook.specs.Meaning.{first, lacking, in_band, prices_of_prod
 ghost use Rattle.rulebook.specs.Sheets.{sheet, is_blank};
 ghost use Rattle.books.specs.Books.{entry_centre};
 ghost use Rattle.books.specs.Reference.{amount, nearest_multiple, mid_price, trading_price, last_or_reference};
-ghost use Rattle.books.specs.Rows.{Small, needs, centre, swing, width, row_product, band_of};
+ghost use Rattle.books.specs.Rows.{Small, needs, centre, swing, width, row_product, band_of, is_swing};
 
 use super::rows::{Centre, Row};
 use price::{Fraction, StepGrid, nearest};
 use rulebook::{Band, Figures, Letter, RuleFault};
 
-/// Whether the row needs the figure of `letter`.
-fn is_needed(row: Row, letter: Letter) -> bool
-    ensures { result ≡ needs row letter }
-{
-    let of_centre = match row.centre {
-        Centre::TheoreticalPrice => Letter::H,
-        _ => Letter::U,
-    };
-    if letter.is(of_centre) || letter.is(row.of) {
-        return true;
+impl Row {
+    /// Whether the row needs the figure of `letter`.
+    fn needs(&self, letter: Letter) -> bool
+        ensures { result ≡ needs self.now letter }
+    {
+        let of_centre = match self.centre {
+            Centre::TheoreticalPrice => Letter::H,
+            _ => Letter::U,
+        };
+        letter == of_centre || letter == self.of || is_swing(self.swing, letter)
     }
-    match row.swing {
-        Some((one, other)) => letter.is(one) || letter.is(other),
-        None => false,
+
+    /// Whether the row needs the figure of `letter` and it is blank.
+    fn lacks(&self, figures: &Figures, letter: Letter) -> bool
+        ensures { result ≡ needs self.now letter && is_blank (sheet figures.now letter) }
+    {
+        self.needs(letter) && figures.get(letter).is_none()
     }
-}
 
-/// Whether the row needs the figure of `letter` and it is blank.
-fn is_lacking(row: Row, figures: &Figures, letter: Letter) -> bool
-    ensures { result ≡ needs row letter && is_blank (sheet figures.now letter) }
-{
-    is_needed(row, letter) && figures.get(letter).is_none()
-}
+    /// The first of `letters` that is lacking.
+    fn first_lacking(&self, figures: &Figures, letters: &[Letter]) -> Option<Letter>
+        ensures { result ≡ first (λ letter. needs self.now letter && is_blank (sheet figures.now letter)) letters.now }
+    {
+        letters
+            .iter()
+            .copied()
+            .find(|letter| self.lacks(figures, *letter))
+    }
 
-/// The first of `letters` that is lacking.
-fn first_lacking(row: Row, figures: &Figures, letters: &[Letter]) -> Option<Letter>
-    ensures { result ≡ first (λ letter. needs row letter && is_blank (sheet figures.now letter)) letters.now }
-{
-    for letter in letters {
-        if is_lacking(row, figures, *letter) {
-            return Some(*letter);
+    /// The first letter by rank that the row needs and that is blank.
+    fn lacking_letter(&self, figures: &Figures) -> Option<Letter>
+        ensures { result ≡ lacking (needs self.now) (sheet figures.now) }
+    {
+        self.first_lacking(figures, &Letter::ALL)
+    }
+
+    /// The price that the row's prices are measured from.
+    fn centre_price(&self, figures: &Figures) -> u64
+        requires { Small self.now }
+        ensures value { result ≡ centre self.now.centre self.now.auction_step (sheet figures.now) }
+        ensures bound { result ≤ last_price }
+    {
+        match (self.centre, self.auction_step) {
+            (Centre::TradingPrice, Some(step)) => {
+                trading_price(StepGrid::new(step).unwrap(), figures)
+            }
+            (Centre::TradingPrice, None) => last_or_reference(figures),
+            (Centre::LastPrice, _) => last_or_reference(figures),
+            (Centre::ReferencePrice, _) => amount(figures, Letter::U),
+            (Centre::TheoreticalPrice, _) => amount(figures, Letter::H),
         }
     }
-    None
+
+    /// How far a price may be from the centre, in thousandths of a pip.
+    fn width(&self, figures: &Figures) -> u64
+        requires { Small self.now }
+        ensures value { result ≡ width self.now (sheet figures.now) }
+        ensures bound { result ≤ 132_000_000_000_000 }
+    {
+        share(self.weight, amount(figures, self.of)) + 1000 * swing_between(self.swing, figures)
+    }
+
+    /// The prices of a row whose needed figures are posted.
+    fn posted_prices(&self, figures: &Figures) -> Band<StepGrid>
+        requires { Small self.now }
+        ensures { band_of result ≡ (row_product self.now).prices (sheet figures.now) }
+    {
+        let grid = StepGrid::new(self.unit).unwrap();
+        let centre = 1000 * self.centre_price(figures);
+        let width = self.width(figures);
+        let low = centre.saturating_sub(width).max(1000 * self.unit);
+        Band {
+            grid,
+            low,
+            high: centre + width,
+        }
+    }
+
+    /// The price that the prices of a row are measured from, or the first letter that it lacks.
+    pub(crate) fn centre(&self, figures: &Figures) -> Result<u64, RuleFault>
+        requires { Small self.now }
+        ensures { result ≡ entry_centre (Ok self.now) (sheet figures.now) }
+    {
+        match self.lacking_letter(figures) {
+            Some(letter) => Err(RuleFault::LetterLacking(letter)),
+            None => Ok(self.centre_price(figures)),
+        }
+    }
+
+    /// The prices of a row, or the first letter that it lacks.
+    pub(crate) fn prices(&self, figures: &Figures) -> Result<Band<StepGrid>, RuleFault>
+        requires { Small self.now }
+        ensures { in_band (λ grid. multiples grid.step) result ≡ prices_of_product (Some (row_product self.now)) (sheet figures.now) }
+    {
+        match self.lacking_letter(figures) {
+            Some(letter) => Err(RuleFault::LetterLacking(letter)),
+            None => Ok(self.posted_prices(figures)),
+        }
+    }
 }
 
-/// The first letter by rank that the row needs and that is blank.
-fn lacking_letter(row: Row, figures: &Figures) -> Option<Letter>
-    ensures { result ≡ lacking (needs row) (sheet figures.now) }
-{
-    first_lacking(row, figures, &Letter::ALL)
-}
-
-/// The nearest multiple of `step` to half of `sum`.
-fn nearest_to_half(step: u64, sum: u64) -> Option<u64>
-    requires step { (1 ≤ step) × (step ≤ 100_000) }
-    requires sum { sum ≤ 200_000_000_000 }
-    ensures value { result ≡ nearest_multiple step sum }
+/// The price of `grid` that is nearest to half of `sum`.
+fn nearest_to_half(grid: StepGrid, sum: u64) -> Option<u64>
+    requires { sum ≤ 200_000_000_000 }
+    ensures value { result ≡ nearest_multiple grid.step sum }
     ensures bound { IfSome result (λ price. price ≤ last_price) }
 {
-    let grid = StepGrid::new(step).unwrap();
     let half = Fraction::new(sum, 2).unwrap();
     let (price, _) = nearest(&grid, half)?;
     Some(price)
 }
 
-/// The mid-price on an auction step, where bid and offer are posted.
-fn mid_price(step: u64, figures: &Figures) -> Option<u64>
-    requires { (1 ≤ step) × (step ≤ 100_000) }
-    ensures value { result ≡ mid_price step (sheet figures.now) }
+/// The mid-price on the grid of an auction step, where bid and offer are posted.
+fn mid_price(grid: StepGrid, figures: &Figures) -> Option<u64>
+    ensures value { result ≡ mid_price grid.step (sheet figures.now) }
     ensures bound { IfSome result (λ price. price ≤ last_price) }
 {
     match (figures.get(Letter::B), figures.get(Letter::O)) {
-        (Some(bid), Some(offer)) => nearest_to_half(step, bid + offer),
+        (Some(bid), Some(offer)) => nearest_to_half(grid, bid + offer),
         _ => None,
     }
 }
@@ -91,12 +146,11 @@ fn last_or_reference(figures: &Figures) -> u64
 }
 
 /// T: the mid-price, else the last price, else the reference price; the choice can put the last price first.
-fn trading_price(step: u64, figures: &Figures) -> u64
-    requires { (1 ≤ step) × (step ≤ 100_000) }
-    ensures value { result ≡ trading_price step (sheet figures.now) }
+fn trading_price(grid: StepGrid, figures: &Figures) -> u64
+    ensures value { result ≡ trading_price grid.step (sheet figures.now) }
     ensures bound { result ≤ last_price }
 {
-    let mid = mid_price(step, figures);
+    let mid = mid_price(grid, figures);
     let last = figures.get(Letter::L);
     let chosen = match figures.get(Letter::M) {
         Some(2) => last.or(mid),
@@ -105,18 +159,13 @@ fn trading_price(step: u64, figures: &Figures) -> u64
     chosen.or(figures.get(Letter::U)).unwrap_or(0)
 }
 
-/// The price that the row's prices are measured from.
-fn centre_price(row: Row, figures: &Figures) -> u64
-    requires { Small row }
-    ensures value { result ≡ centre row.centre row.auction_step (sheet figures.now) }
-    ensures bound { result ≤ last_price }
+/// Whether a letter is one of two.
+fn is_swing(letters: Option<(Letter, Letter)>, letter: Letter) -> bool
+    ensures { result ≡ is_swing letters letter }
 {
-    match (row.centre, row.auction_step) {
-        (Centre::TradingPrice, Some(step)) => trading_price(step, figures),
-        (Centre::TradingPrice, None) => last_or_reference(figures),
-        (Centre::LastPrice, _) => last_or_reference(figures),
-        (Centre::ReferencePrice, _) => amount(figures, Letter::U),
-        (Centre::TheoreticalPrice, _) => amount(figures, Letter::H),
+    match letters {
+        Some((one, other)) => letter == one || letter == other,
+        None => false,
     }
 }
 
@@ -146,51 +195,4 @@ fn share(weight: u64, figure: u64) -> u64
     ensures bound { result ≤ 32_000_000_000_000 }
 {
     weight * figure
-}
-
-/// How far a price may be from the centre, in thousandths of a pip.
-fn band_width(row: Row, figures: &Figures) -> u64
-    requires { Small row }
-    ensures value { result ≡ width row (sheet figures.now) }
-    ensures bound { result ≤ 132_000_000_000_000 }
-{
-    share(row.weight, amount(figures, row.of)) + 1000 * swing_between(row.swing, figures)
-}
-
-/// The price that the prices of a row are measured from, or the first letter that it lacks.
-pub(crate) fn row_centre(row: Row, figures: &Figures) -> Result<u64, RuleFault>
-    requires { Small row }
-    ensures { result ≡ entry_centre (Ok row) (sheet figures.now) }
-{
-    match lacking_letter(row, figures) {
-        Some(letter) => Err(RuleFault::LetterLacking(letter)),
-        None => Ok(centre_price(row, figures)),
-    }
-}
-
-/// The prices of a row, or the first letter that it lacks.
-pub(crate) fn row_prices(row: Row, figures: &Figures) -> Result<Band<StepGrid>, RuleFault>
-    requires { Small row }
-    ensures { in_band (λ grid. multiples grid.step) result ≡ prices_of_product (Some (row_product row)) (sheet figures.now) }
-{
-    match lacking_letter(row, figures) {
-        Some(letter) => Err(RuleFault::LetterLacking(letter)),
-        None => Ok(row_band(row, figures)),
-    }
-}
-
-/// The prices of a row whose needed figures are posted.
-fn row_band(row: Row, figures: &Figures) -> Band<StepGrid>
-    requires { Small row }
-    ensures { band_of result ≡ (row_product row).prices (sheet figures.now) }
-{
-    let grid = StepGrid::new(row.unit).unwrap();
-    let centre = 1000 * centre_price(row, figures);
-    let width = band_width(row, figures);
-    let low = centre.saturating_sub(width).max(1000 * row.unit);
-    Band {
-        grid,
-        low,
-        high: centre + width,
-    }
 }

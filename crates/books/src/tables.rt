@@ -1,14 +1,41 @@
-//! The rows of the single-issue and the flexible book. A product's number is its row's, from 1.
-ghost use Rattle.std.specs.Prelude.{◌≡◌, ◌+◌, ◌<◌, map};
+//! Books that are tables of rows, and the rows of two of them. A product's number is its row's, from 1.
+ghost use Rattle.std.specs.Prelude.{◌≡◌, ℕ, ◌+◌, ◌<◌, map, IfOk};
 ghost use Rattle.std.specs.List.{range_with_len};
-ghost use Rattle.books.specs.Books.{written};
-ghost use Rattle.books.specs.Exchange.{single_issue_rules, single_issue_rule, flexible_rules, flexible_rule};
+ghost use Rattle.books.specs.Books.{written, row_in};
+ghost use Rattle.books.specs.Exchange.{Rule};
 ghost use Rattle.books.specs.Rows.{Small};
 
 use super::rows::{Centre, Row};
-use rulebook::{HoursClass, Letter};
+use rulebook::{HoursClass, Letter, RuleFault};
 
-const SINGLE_ISSUE: [Row; 22] = [
+/// A book that is a table of rows.
+pub(crate) trait Table {
+    /// The number of its last product.
+    ghost last: { ℕ };
+
+    /// The exchange's rule for each product.
+    ghost rule: { ℕ → Rule };
+
+    /// The table as a whole.
+    fn rows() -> &'static [Row]
+        ensures { result.now ≡ map (λ product. written (rule product)) (range_with_len 1 last) };
+
+    ghost all_small: { (index : ℕ) → index < last → Small (written (rule (index + 1))) };
+}
+
+/// The row of a product in a book that is a table.
+pub(crate) fn row_of<T: Table>(product: u64) -> Result<Row, RuleFault>
+    ensures value { result ≡ row_in T.last T.rule product }
+    ensures small { IfOk result Small }
+{
+    let rows = T::rows();
+    if !(1..=rows.len() as u64).contains(&product) {
+        return Err(RuleFault::ProductAbsent);
+    }
+    Ok(rows[product as usize - 1])
+}
+
+pub(crate) const SINGLE_ISSUE: [Row; 22] = [
     // 1: 5- and 10-year JGB futures
     Row {
         unit: 1,
@@ -231,7 +258,7 @@ const SINGLE_ISSUE: [Row; 22] = [
     },
 ];
 
-const FLEXIBLE: [Row; 4] = [
+pub(crate) const FLEXIBLE: [Row; 4] = [
     // 1: index futures
     Row {
         unit: 1,
@@ -273,33 +300,3 @@ const FLEXIBLE: [Row; 4] = [
         hours: HoursClass::B,
     },
 ];
-
-/// The single-issue book as a whole.
-fn single_issue_table() -> &'static [Row; 22]
-    ensures { result.now ≡ map (λ product. written (single_issue_rules product)) (range_with_len 1 22) }
-{
-    &SINGLE_ISSUE
-}
-
-/// The flexible book as a whole.
-fn flexible_table() -> &'static [Row; 4]
-    ensures { result.now ≡ map (λ product. written (flexible_rules product)) (range_with_len 1 4) }
-{
-    &FLEXIBLE
-}
-
-pub(crate) fn single_issue_row(index: usize) -> Row
-    requires { index < 22 }
-    ensures value { result ≡ written (single_issue_rule (index + 1)) }
-    ensures small { Small result }
-{
-    single_issue_table()[index]
-}
-
-pub(crate) fn flexible_row(index: usize) -> Row
-    requires { index < 4 }
-    ensures value { result ≡ written (flexible_rule (index + 1)) }
-    ensures small { Small result }
-{
-    flexible_table()[index]
-}
