@@ -31,17 +31,15 @@ impl Rulebook for Compression {
 
     fn band(&self, product: u64, figures: &Figures) -> Result<Band<SinglePrice>, RuleFault> {
         self.hours(product)?;
-        match figures.get(Letter::K) {
-            Some(settlement) => {
-                let grid = SinglePrice::new(settlement).unwrap();
-                let end = 1000 * settlement;
-                Ok(Band {
-                    grid,
-                    low: end,
-                    high: end,
-                })
-            }
-            None => Err(RuleFault::LetterLacking(Letter::K)),
-        }
+        let settlement = figures
+            .get(Letter::K)
+            .ok_or(RuleFault::LetterLacking(Letter::K))?;
+        let grid = SinglePrice::new(settlement).unwrap();
+        let end = 1000 * settlement;
+        Ok(Band {
+            grid,
+            low: end,
+            high: end,
+        })
     }
 }

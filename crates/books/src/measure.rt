@@ -128,10 +128,9 @@ fn mid_price(grid: StepGrid, figures: &Figures) -> Option<u64>
     ensures value { result ≡ mid_price grid.step (sheet figures.now) }
     ensures bound { IfSome result (λ price. price ≤ last_price) }
 {
-    match (figures.get(Letter::B), figures.get(Letter::O)) {
-        (Some(bid), Some(offer)) => nearest_to_half(grid, bid + offer),
-        _ => None,
-    }
+    let bid = figures.get(Letter::B)?;
+    let offer = figures.get(Letter::O)?;
+    nearest_to_half(grid, bid + offer)
 }
 
 /// S: the last price, else the reference price.
@@ -139,10 +138,7 @@ fn last_or_reference(figures: &Figures) -> u64
     ensures value { result ≡ last_or_reference (sheet figures.now) }
     ensures bound { result ≤ 100_000_000_000 }
 {
-    match figures.get(Letter::L) {
-        Some(last) => last,
-        None => amount(figures, Letter::U),
-    }
+    figures.get(Letter::L).unwrap_or(amount(figures, Letter::U))
 }
 
 /// T: the mid-price, else the last price, else the reference price; the choice can put the last price first.
@@ -174,10 +170,9 @@ fn swing_between(letters: Option<(Letter, Letter)>, figures: &Figures) -> u64
     ensures value { result ≡ swing letters (sheet figures.now) }
     ensures bound { result ≤ 100_000_000_000 }
 {
-    match letters {
-        Some((one, other)) => amount(figures, one).abs_diff(amount(figures, other)),
-        None => 0,
-    }
+    letters.map_or(0, |(one, other)| {
+        amount(figures, one).abs_diff(amount(figures, other))
+    })
 }
 
 /// A figure as a number, 0 while blank.
