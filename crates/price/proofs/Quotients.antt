@@ -1,12 +1,8 @@
 -- Quotients rounded down and up, multiples of a step, and a fraction held to an end.
-use Rattle.std.proofs.Common.{◌≡◌, ℕ, zero, suc, ◌+◌, ◌-◌, ◌*◌, ◌/◌, ◌%◌, ◌<◌, ◌≤◌, min, ◌⊎◌, refl, ap, ◌∙◌, inl, inr, mul-le-mul_right, mod-lt, suc-mul, add-mul, lt_of_mul-lt-mul_right, one-mul, div-add-mod', zero-mul, mul_right_comm, div-mul-le_self, le_of_mul-le-mul_right, arith}
+use Rattle.std.proofs.Common.{◌≡◌, ℕ, zero, suc, ◌+◌, ◌-◌, ◌*◌, ◌/◌, ◌%◌, ◌<◌, ◌≤◌, min, ◌⊎◌, refl, ap, ◌∙◌, inl, inr, mul-le-mul_right, mod-lt, suc-mul, add-mul, lt_of_mul-lt-mul_right, one-mul, div-add-mod', zero-mul, mul_right_comm, le_of_mul-le-mul_right, arith}
 use native.Mathlib.Nat.{mul-mod_left}
-use Rattle.std.proofs.lemmas.Nat.{le-div, mul-le}
-use Rattle.price.specs.Rounding.{Floor, Ceiling, LastMultiple, FirstMultiple, Lesser, Greater}
-
-pub floor_div : (n d : ℕ) → 1 ≤ d → Floor n d (n / d)
-floor_div n d positive whole =
-    (λ below. le-div whole n d positive below, λ most. omega (arith, mul-le-mul_right d most, div-mul-le_self n d))
+use Rattle.std.proofs.lemmas.Nat.{le-div}
+use Rattle.price.specs.Rounding.{Ceiling, LastMultiple, FirstMultiple, Lesser, Greater}
 
 -- `div_ceil` adds one exactly where there is a rest
 rest : (x : ℕ) → ((min 1 x ≡ 0) × (x ≡ 0)) ⊎ ((min 1 x ≡ 1) × (0 < x))
@@ -27,11 +23,6 @@ rounded_up n d q r up positive less whole (inr (one, odd)) number = (
 pub ceiling_div : (n d : ℕ) → 1 ≤ d → Ceiling n d (n / d + min 1 (n % d))
 ceiling_div n d positive =
     rounded_up n d (n / d) (n % d) (min 1 (n % d)) positive (mod-lt n positive) (div-add-mod' n d) (rest (n % d))
-
--- rounding up goes no further than the numerator
-pub ceiling_most : (n d : ℕ) → 1 ≤ d → n / d + min 1 (n % d) ≤ n
-ceiling_most n d positive =
-    let t : n ≤ n * d = omega (arith, mul-le n 1 n d (omega arith) positive) in (ceiling_div n d positive n).0 t
 
 -- a multiple is a whole number of steps
 pub in_steps : (step price : ℕ) → price % step ≡ 0 → price / step * step ≡ price
