@@ -13,7 +13,7 @@ impl Collar {
         if low == 0 && high == 0 {
             return Ok(None);
         }
-        if 1 <= low && low <= high && high <= 220_000_000_000 {
+        if 1 <= low && low <= high && high <= Self::HIGHEST {
             Ok(Some(Collar { low, high }))
         } else {
             Err(DayFault::CollarOutsideLimits)

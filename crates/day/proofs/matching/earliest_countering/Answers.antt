@@ -1,4 +1,4 @@
-use Rattle.std.proofs.Common.{◌≡◌, suc, true, false, sym, refl, ap, ◌∙◌, add-one, arith}
+use Rattle.std.proofs.Common.{◌≡◌, suc, true, false, sym, refl, ap, ◌∙◌, add-one}
 use Rattle.history.specs.Orders.{first}
 use Rattle.history.proofs.Firsts.{first_on, first_there}
 use Rattle.day.specs.declared.order.Order.{Order}
@@ -10,14 +10,11 @@ pub loop-i-init : goal.loop-i-init
 unfolding first
 loop-i-init c = refl
 
-pub returns-then-meets : goal.returns-then-meets
-returns-then-meets c =
+pub returns-then-meets-clause-value : goal.returns-then-meets-clause-value
+returns-then-meets-clause-value c =
     let here : meets_at c.args.orders.now c.args.incoming.now (suc c.loop-i.i) ≡ true =
     ap (λ (o : Order). meets o c.args.incoming.now) (order_next c.args.orders.now c.loop-i.i) ∙ sym c.if-meets.ensures in
-    record {
-      value = add-one c.loop-i.i ∙ sym (first_there _ c.loop-i.i _ c.loop-i.invariant here c.loop-i-test.true);
-      bound = omega arith;
-    }
+    add-one c.loop-i.i ∙ sym (first_there _ c.loop-i.i _ c.loop-i.invariant here c.loop-i-test.true)
 
 pub loop-i-preserved : goal.loop-i-preserved
 loop-i-preserved c =

@@ -1,9 +1,12 @@
-use Rattle.std.proofs.Common.{◌∙◌}
-use Rattle.day.specs.State.{terms, band_for}
-use Rattle.day.proofs.Admitting.{asked_same}
+use Rattle.std.proofs.Common.{arith, rules}
+use Rattle.std.proofs.lemmas.Grind.{common_steps}
+use Rattle.history.specs.Rulings.{quoted}
 use Rattle.day.proofs.prices.asked.Goals as goal
 
+pub returns-in_err-prices : goal.returns-in_err-prices
+unfolding quoted
+returns-in_err-prices g c = grind (arith, common_steps)
+
 pub returns : goal.returns
-returns g c =
-    c.nearest_admissible.ensures
-    ∙ asked_same (band_for (g.R.Rulebook.meaning c.args.book.now) (terms c.args.contract.now)) (terms c.args.contract.now).collar c.args.fraction.numerator c.args.fraction.divisor
+unfolding quoted
+returns g c = grind (arith, common_steps)
