@@ -1,8 +1,7 @@
 //! The calls that set up contracts: list, post, collar, halt and lift.
-ghost use Rattle.std.specs.Prelude.{◌≡◌, true, is_ok, if◌then◌else◌};
+ghost use Rattle.std.specs.Prelude.{◌≡◌, is_ok, IfOk, if◌then◌else◌};
 ghost use Rattle.history.specs.declared.Call.TheVariants.{List, Post, Collar as Collaring, Halt, Lift};
-ghost use Rattle.rulebook.specs.Sheets.{sheet, with_figure};
-ghost use Rattle.history.specs.History.{takes};
+ghost use Rattle.rulebook.specs.Sheets.{posting};
 ghost use Rattle.history.specs.Rulings.{ruled_on};
 ghost use Rattle.day.specs.Calls.{as_listed, as_done, letter_for, halting, changed};
 ghost use Rattle.day.specs.Following.{left};
@@ -45,7 +44,7 @@ impl<R: Rulebook> Day<R> {
     {
         let letter = figure_letter(letter, value)?;
         let mut found = self.find(contract)?;
-        found.figures = with_figure(found.figures, letter, value);
+        found.figures.post(letter, value)?;
         self.put(contract, found);
         Ok(())
     }
@@ -103,21 +102,12 @@ impl<R: Rulebook> Day<R> {
 
 /// The letter of a character under which a value may be posted.
 fn figure_letter(letter: char, value: u64) -> Result<Letter, DayFault>
-    ensures { result ≡ letter_for letter value }
+    ensures value { result ≡ letter_for letter value }
+    ensures fits { IfOk result (λ letter. posting letter value ≡ Ok tt) }
 {
     let letter = Letter::from_char(letter).ok_or(FigureFault::UnknownLetter)?;
     if value > letter.most() {
         return Err(FigureFault::ValueOverLimit.into());
     }
     Ok(letter)
-}
-
-/// Figures with one more posted, which its letter takes.
-fn with_figure(figures: Figures, letter: Letter, value: u64) -> Figures
-    requires { takes letter value ≡ true }
-    ensures { sheet result ≡ with_figure (sheet figures) letter value }
-{
-    let mut changed = figures;
-    let _ = changed.post(letter, value);
-    changed
 }

@@ -1,4 +1,4 @@
-use Rattle.std.proofs.Common.{arith, rules}
+use Rattle.std.proofs.Common.{arith}
 use Rattle.std.proofs.lemmas.Grind.{common_steps}
 use Rattle.history.specs.Rulings.{quoted}
 use Rattle.day.proofs.prices.asked.Goals as goal

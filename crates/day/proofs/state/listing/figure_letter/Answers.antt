@@ -4,14 +4,14 @@ use Rattle.std.proofs.lemmas.Bool.Decides.{nat_tests}
 use Rattle.history.specs.History.{letter_named, takes}
 use Rattle.day.proofs.state.listing.figure_letter.Goals as goal
 
-pub returns-in_err-letter : goal.returns-in_err-letter
-unfolding letter_named takes
-returns-in_err-letter c = grind (arith, common_steps)
+pub returns-in_err-letter-clause-value : goal.returns-in_err-letter-clause-value
+unfolding letter_named
+returns-in_err-letter-clause-value c = grind (arith, common_steps)
 
-pub returns-then-value-most : goal.returns-then-value-most
+pub returns-then-value-most-clause-value : goal.returns-then-value-most-clause-value
 unfolding letter_named takes
-returns-then-value-most c = grind (arith, nat_tests, common_steps)
+returns-then-value-most-clause-value c = grind (arith, nat_tests, common_steps)
 
-pub returns : goal.returns
+pub returns-clause-value : goal.returns-clause-value
 unfolding letter_named takes
-returns c = grind (arith, nat_tests, common_steps)
+returns-clause-value c = grind (arith, nat_tests, common_steps)
