@@ -1,6 +1,6 @@
 -- What one more call keeps of the orders before it.
-use Rattle.std.proofs.Common.{◌≡◌, ℕ, suc, ◌<◌, ◌≤◌, true, false, not, eqb, ltb, sym, refl, ap, ◌∙◌, inl, inr, le_refl, arith}
-use Rattle.std.proofs.lemmas.Bool.{and_parts, and_from, or_parts, or_from, or_left, or_right, ltb-true, ltb-false, lt-ltb, le-ltb, eqb-false, eqb-true, eq-eqb, ne_eqb, not-true, not_from_false, cond-true, cond-false, cases_Bool, both_ways}
+use Rattle.std.proofs.Common.{◌≡◌, ℕ, suc, ◌<◌, ◌≤◌, true, false, eqb, sym, refl, ap, ◌∙◌, le_refl, arith}
+use Rattle.std.proofs.lemmas.Bool.{or_parts, or_left, or_right, eq-eqb, ne_eqb, cond-true, cond-false}
 use Rattle.std.proofs.lemmas.Bool.Decides.{nat_tests}
 use Rattle.rulebook.specs.Meaning.{Meaning}
 use Rattle.history.specs.declared.calls.Side.{Side}
@@ -146,48 +146,14 @@ opposite-self : (side : Side) → opposite side side ≡ false
 opposite-self Bid = refl
 opposite-self Offer = refl
 
-pub record Countering (one other : Entry) : Type 0 where
-  pub contract : one.contract ≡ other.contract
-  pub price : one.price ≡ other.price
-  pub quantity : one.quantity ≡ other.quantity
-  pub sides : opposite one.side other.side ≡ true
-  pub there : one.counterparty ≡ other.participant
-  pub back : other.counterparty ≡ one.participant
-
-pub counter-parts : (one other : Entry) → counters one other ≡ true → Countering one other
+pub counter-sides : (one other : Entry) → counters one other ≡ true → opposite one.side other.side ≡ true
 unfolding counters
-counter-parts one other is = record {
-  contract = grind (arith, nat_tests);
-  price = grind (arith, nat_tests);
-  quantity = grind (arith, nat_tests);
-  sides = grind (arith, nat_tests);
-  there = grind (arith, nat_tests);
-  back = grind (arith, nat_tests);
-}
-
-pub counter-from : (one other : Entry) → Countering one other → counters one other ≡ true
-unfolding counters
-counter-from one other c = grind (arith, nat_tests, c.contract, c.price, c.quantity, c.sides, c.there, c.back)
+counter-sides one other is = grind (arith, nat_tests)
 
 pub counter-flip : (one other : Entry) → counters one other ≡ false → counters other one ≡ false
-counter-flip one other no_counter =
-    elim (cases_Bool (counters other one)) [
-      | inl is ↦
-          (let c = counter-parts other one is in
-          absurd (both_ways (counters one other) no_counter (counter-from one other (record {
-            contract = sym c.contract;
-            price = sym c.price;
-            quantity = sym c.quantity;
-            sides = opposite-sym one.side other.side ∙ c.sides;
-            there = c.back;
-            back = c.there;
-          }))))
-      | inr is ↦ is
-    ]
+unfolding counters
+counter-flip one other no_counter = grind (arith, nat_tests, opposite-sym one.side other.side)
 
 pub counter-self : (entry : Entry) → counters entry entry ≡ false
-counter-self entry =
-    elim (cases_Bool (counters entry entry)) [
-      | inl is ↦ absurd (both_ways (opposite entry.side entry.side) (opposite-self entry.side) (counter-parts entry entry is).sides)
-      | inr is ↦ is
-    ]
+unfolding counters
+counter-self entry = grind (arith, nat_tests, opposite-self entry.side)
