@@ -1,9 +1,10 @@
 -- Items by their numbers.
-use Rattle.std.proofs.Common.{◌≡◌, ℕ, zero, suc, ◌≤◌, false, eqb, ltb, List, length, get_or, take, refl, sym, ap, ◌∙◌, inl, inr, add-one, arith}
+use Rattle.std.proofs.Common.{◌≡◌, ℕ, zero, suc, ◌≤◌, false, List, length, get_or, take, refl, sym, ap, ◌∙◌, inl, inr, add-one, arith}
 use Rattle.std.specs.List.{count_by}
 use Rattle.std.proofs.lemmas.List.{take_all}
 use Rattle.std.proofs.lemmas.List.Sums.{count_by_more_yes, count_by_more_no}
-use Rattle.std.proofs.lemmas.Bool.{cond-false, or_parts, ne_eqb, eqb-false, ltb-false, cases_Bool}
+use Rattle.std.proofs.lemmas.Bool.{cases_Bool}
+use Rattle.std.proofs.lemmas.Bool.Decides.{nat_tests}
 use Rattle.history.specs.Orders.{how_many}
 use Rattle.history.specs.Rulings.{outside}
 use Rattle.history.proofs.Firsts.{many_on, many_at}
@@ -11,19 +12,12 @@ use Rattle.day.specs.declared.order.Order.{Order}
 use Rattle.day.specs.State.{numbered, no_order}
 use Rattle.day.specs.Calls.{is_due, due_at}
 
-above_zero : (number : ℕ) → (number ≡ 0 → ⊥) → 1 ≤ number
-above_zero number other = omega arith
-
 pub inside : (last number : ℕ) → outside last number ≡ false → (1 ≤ number) × (number ≤ last)
-inside last number is =
-    let (positive, most) = or_parts (eqb number 0) (ltb last number) is in
-    (above_zero number (eqb-false number 0 positive), ltb-false last number most)
+inside last number is = (grind (arith, nat_tests), grind (arith, nat_tests))
 
 -- the order after so many
 pub order_next : (orders : List Order) (i : ℕ) → numbered no_order orders (suc i) ≡ get_or orders i no_order
-order_next orders i =
-    cond-false (eqb (suc i) 0) no_order _ (ne_eqb (suc i) 0 (λ zero. omega arith))
-    ∙ ap (λ (k : ℕ). get_or orders k no_order) (omega arith)
+order_next orders i = grind (arith, nat_tests)
 
 -- the orders that are due, counted by their numbers and along the list
 due_so_far : (orders : List Order) (to n : ℕ) → n ≤ length orders → how_many (due_at orders to) n ≡ count_by (is_due to) (take n orders)

@@ -81,7 +81,7 @@ done_if : (waiting : Bool) (answer : Answer) → answer ≡ refuse (NotWaiting w
     → (answer ≡ Done → waiting ≡ true) × (waiting ≡ true → answer ≡ Done)
 done_if true answer given = (λ _. refl, λ _. given)
 done_if false answer given =
-    (λ done. absurd (let z : ◌≡◌ {A = ℕ} 0 1 = cc in omega arith), λ is. absurd (both_ways false refl is))
+    (λ done. cc, λ is. cc)
 
 withdrawable : (rules : Meaning) (h : History) (k : ℕ) → known h k ≡ true → (answer : Answer)
     → Fixed rules h (Withdraw k (order h k).entry.participant) answer
