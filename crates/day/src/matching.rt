@@ -9,6 +9,7 @@ use super::order::Order;
 use history::Entry;
 
 /// The number of the earliest waiting order that counters an entry.
+#[tactic(auto, using(history::proofs::Firsts::first_on, history::proofs::Firsts::first_there, crate::proofs::Numbering::order_next), unfolding(history::specs::Orders::first))]
 pub(crate) fn earliest_countering(orders: &[Order], incoming: &Entry) -> Option<u64>
     ensures value { unwrap_or result 0 ≡ first (meets_at orders.now incoming.now) (length orders.now) }
     ensures known { IfSome result (λ number. outside (length orders.now) number ≡ false) }
@@ -22,6 +23,7 @@ pub(crate) fn earliest_countering(orders: &[Order], incoming: &Entry) -> Option<
 }
 
 /// How many orders lapse by the minute `to`.
+#[tactic(auto, using(crate::proofs::Numbering::many_due))]
 pub(crate) fn count_due(orders: &[Order], to: u64) -> u64
     ensures { result ≡ how_many (due_at orders.now to) (length orders.now) }
 {

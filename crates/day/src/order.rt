@@ -54,6 +54,7 @@ impl Order {
 }
 
 /// Whether two entries counter each other.
+#[tactic(auto, unfolding(history::specs::Orders::counters))]
 fn counters(one: &Entry, other: &Entry) -> bool
     ensures { result ≡ counters one.now other.now }
 {

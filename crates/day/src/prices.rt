@@ -22,6 +22,7 @@ fn collar_limits(contract: &Contract) -> (u64, u64)
 }
 
 /// The prices on the rulebook's grid, inside its band and inside the collar.
+#[tactic(auto, using(crate::proofs::Admitting::ends_fit))]
 pub(crate) fn admissible_prices<R: Rulebook>(
     book: &R,
     contract: &Contract,
@@ -45,6 +46,7 @@ pub(crate) fn admits<G: Grid>(grid: &G, price: u64) -> bool
 }
 
 /// The nearest admissible price of a contract to a fraction.
+#[tactic(auto, unfolding(history::specs::Rulings::quoted))]
 pub(crate) fn asked<R: Rulebook>(
     book: &R,
     contract: &Contract,

@@ -101,6 +101,7 @@ impl<R: Rulebook> Day<R> {
 }
 
 /// The letter of a character under which a value may be posted.
+#[tactic(auto, unfolding(history::specs::History::letter_named, history::specs::History::takes))]
 fn figure_letter(letter: char, value: u64) -> Result<Letter, DayFault>
     ensures value { result ≡ letter_for letter value }
     ensures fits { IfOk result (λ letter. posting letter value ≡ Ok tt) }
