@@ -22,7 +22,6 @@ fn collar_limits(contract: &Contract) -> (u64, u64)
 }
 
 /// The prices on the rulebook's grid, inside its band and inside the collar.
-#[tactic(auto, using(crate::proofs::Admitting::ends_fit))]
 pub(crate) fn admissible_prices<R: Rulebook>(
     book: &R,
     contract: &Contract,
