@@ -1,5 +1,5 @@
 -- The checks of an entry, one after the other, against the rulings.
-use Rattle.std.proofs.Common.{◌≡◌, ℕ, suc, Bool, true, false, cond, not, ◌&&◌, leb, length, is_ok, is_some, Some, None, Ok, Err, Option, Result, unwrap_or, sym, refl, ap, ◌∙◌, subst, arith}
+use Rattle.std.proofs.Common.{◌≡◌, ℕ, suc, Bool, true, false, cond, not, ◌&&◌, leb, length, is_ok, is_some, Some, None, Ok, Err, Option, Result, unwrap_or, sym, refl, ap, ◌∙◌, subst}
 use Rattle.rulebook.specs.declared.RuleFault.{RuleFault}
 use Rattle.rulebook.specs.Meaning.{Meaning, PricesInBand, hours_of}
 use Rattle.history.specs.declared.Entry.{Entry}
@@ -49,30 +49,27 @@ first_checks false false false false contract rest room answer = refl
 abbrev Until : ℕ → Result ℕ DayFault → Type 0
 Until until result = (u : ℕ) → result ≡ Ok u → u ≡ until
 
-never : {A : Type 0} (fault : DayFault) (value : A) → ◌≡◌ {A = Result A DayFault} (Err fault) (Ok value) → ⊥
-never fault value is = let z : ◌≡◌ {A = ℕ} 0 1 = cc in omega arith
-
 until_itself : (until : ℕ) → Until until (Ok until)
-until_itself until u is = let same : u ≡ until = cc in same
+until_itself until u is = cc
 
 until_denied : (until : ℕ) (fault : Option DayFault) (rest : Result ℕ DayFault) → Until until rest → Until until (deny fault rest)
 until_denied until None rest fits = fits
-until_denied until (Some fault) rest fits = λ u is. absurd (never fault u is)
+until_denied until (Some fault) rest fits = λ u is. cc
 
 until_then : {A : Type 0} (until : ℕ) (first : Result A DayFault) (rest : A → Result ℕ DayFault)
     → ((value : A) → Until until (rest value)) → Until until (then first rest)
 until_then until (Ok value) rest fits = fits value
-until_then until (Err fault) rest fits = λ u is. absurd (never fault u is)
+until_then until (Err fault) rest fits = λ u is. cc
 
 until_room : (until : ℕ) (result : Result ℕ DayFault) (full : Bool) → Until until result
     → Until until (then result (λ (u : ℕ). deny (OrdersFull when full) (Ok u)))
 until_room until (Ok value) full fits =
     until_denied until (OrdersFull when full) (Ok value) (subst (λ (v : ℕ). Until until (Ok v)) (sym (fits value refl)) (until_itself until))
-until_room until (Err fault) full fits = λ u is. absurd (never fault u is)
+until_room until (Err fault) full fits = λ u is. cc
 
 until_found : (until : ℕ) (missing : Bool) (contract : Terms) (rest : Terms → Result ℕ DayFault) → Until until (rest contract)
     → Until until (then (cond missing (Err ContractNotListed) (Ok contract)) rest)
-until_found until true contract rest fits = λ u is. absurd (never ContractNotListed u is)
+until_found until true contract rest fits = λ u is. cc
 until_found until false contract rest fits = fits
 
 module _ (rules : Meaning) (s : State) (entry : Entry) where

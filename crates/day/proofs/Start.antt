@@ -1,13 +1,13 @@
 -- A fresh day says the board of the empty history.
-use Rattle.std.proofs.Common.{◌≡◌, ℕ, true, false, ◌||◌, eqb, ltb, None, Ok, Err, Option, Result, unwrap_or, sym, refl, ap, ◌∙◌, inl, inr, arith}
-use Rattle.std.proofs.lemmas.Bool.{or_left, or_right, eq-eqb, lt-ltb, cases_eq, and_left, not_from_true}
+use Rattle.std.proofs.Common.{◌≡◌, ℕ, false, None, Ok, Err, Option, Result, unwrap_or, sym, refl, ap, ◌∙◌, arith}
+use Rattle.std.proofs.lemmas.Bool.Decides.{nat_tests}
 use Rattle.rulebook.specs.declared.HoursClass.{HoursClass}
 use Rattle.rulebook.specs.declared.HoursClass.TheVariants.{A, B, C, D, E}
 use Rattle.rulebook.specs.declared.RuleFault.{RuleFault}
 use Rattle.rulebook.specs.Meaning.{Meaning, hours_of}
 use Rattle.history.specs.History.{opened}
 use Rattle.history.specs.Prices.{closing_in}
-use Rattle.history.specs.Orders.{known, waits}
+use Rattle.history.specs.Orders.{waits}
 use Rattle.history.specs.Board.{board}
 use Rattle.day.specs.declared.order.Order.{Order}
 use Rattle.day.specs.State.{fresh, just_listed, no_order, is_waiting, board_of}
@@ -28,10 +28,7 @@ closed_at_first (Err fault) = refl
 
 none_waits : (rules : Meaning) (k : ℕ) → waits rules opened k ≡ false
 unfolding waits
-none_waits rules k = and_left (known opened k) _ (not_from_true _ (cases k))
-  where
-    cases : (k : ℕ) → (eqb k 0 || ltb 0 k) ≡ true
-    cases k = elim (cases_eq k 0) [ inl zero ↦ or_left _ _ (eq-eqb k 0 zero) | inr other ↦ or_right (eqb k 0) _ (lt-ltb 0 k (omega arith)) ]
+none_waits rules k = grind (arith, nat_tests)
 
 module _ (rules : Meaning) where
   until_none : (k : ℕ) → (board_of fresh).until k ≡ (board rules opened).until k

@@ -177,6 +177,11 @@ abbrev pub after_entry : Result ℕ DayFault → State → Entry → State
 after_entry (Ok until) s entry = paired s (partner_on s entry) entry until
 after_entry (Err fault) s entry = s
 
+-- the call that halts a contract, or lifts its halt
+abbrev pub halting : ℕ → Bool → Call
+halting contract true = Halt contract
+halting contract false = Lift contract
+
 -- the day after an accepted call
 abbrev pub changed : Meaning → State → Call → State
 changed rules s (Listing product) = with_one_more s (just_listed product)

@@ -1,5 +1,5 @@
 -- The day as it is stored: the minute, the contracts and the orders, and the board that they make.
-use Rattle.std.specs.Prelude.{ℕ, ◌-◌, ◌*◌, Bool, true, false, cond, List, [], map, length, Some, None, Ok, Err, vec_items, Option, Result, ◌==◌, slice_index_or}
+use Rattle.std.specs.Prelude.{ℕ, ◌-◌, ◌*◌, Bool, true, false, cond, List, [], map, length, Some, None, Ok, Err, vec_items, Option, Result, ◌==◌, slice_index_or, slice_get}
 use Rattle.price.specs.declared.Limit.{Limit}
 use Rattle.price.specs.Sets.{PriceSet, between, last_end}
 use Rattle.rulebook.specs.declared.RuleFault.{RuleFault}
@@ -61,6 +61,10 @@ fresh = record { minute = 0; contracts = []; orders = [] }
 -- the item of a number from 1 on
 abbrev pub numbered : {A : Type 0} → A → List A → ℕ → A
 numbered nothing list number = cond (number == 0) nothing (slice_index_or list (number - 1) nothing)
+
+-- the item of a number from 1 on, if there is one
+abbrev pub item_of : {A : Type 0} → List A → ℕ → Option A
+item_of list number = cond (number == 0) None (slice_get list (number - 1))
 
 abbrev pub contract_at : State → ℕ → Terms
 contract_at s contract = numbered (just_listed 0) s.contracts contract

@@ -1,25 +1,11 @@
-//! The contract of a number, from 1.
-ghost use Rattle.std.specs.Prelude.{◌≡◌, ◌-◌, false, map, length, slice_set};
-ghost use Rattle.history.specs.Rulings.{outside};
-ghost use Rattle.day.specs.Calls.{found, finding_in};
-ghost use Rattle.day.specs.State.{terms};
+//! The item of a number, from 1.
+ghost use Rattle.std.specs.Prelude.{◌≡◌};
+ghost use Rattle.day.specs.State.{item_of};
 
-use super::contract::Contract;
-use history::DayFault;
-
-pub(crate) fn numbered(contracts: &[Contract], number: u64) -> Result<Contract, DayFault>
-    ensures { found result ≡ finding_in (map terms contracts.now) number }
+/// The item of a number, if there is one.
+pub(crate) fn numbered<T: Copy>(items: &[T], number: u64) -> Option<T>
+    ensures { result ≡ item_of items.now number }
 {
-    if number == 0 || number > contracts.len() as u64 {
-        return Err(DayFault::ContractNotListed);
-    }
-    Ok(contracts[number as usize - 1])
-}
-
-/// Puts `changed` in the place of the contract of a number.
-pub(crate) fn replace(contracts: &mut [Contract], number: u64, changed: Contract)
-    requires { outside (length (map terms contracts.old)) number ≡ false }
-    ensures { map terms contracts.new ≡ slice_set (map terms contracts.old) (number - 1) (terms changed) }
-{
-    contracts[number as usize - 1] = changed;
+    let place = number.checked_sub(1)?;
+    items.get(place as usize).copied()
 }

@@ -3,7 +3,7 @@ ghost use Rattle.std.specs.Prelude.{◌≡◌, ◌≤◌};
 ghost use Rattle.price.specs.Sets.{last_end};
 ghost use Rattle.history.specs.Rulings.{quoted};
 ghost use Rattle.day.specs.Calls.{as_price};
-ghost use Rattle.day.specs.State.{terms, collar_limits, set_of, band_for, admissible_set, asked_in};
+ghost use Rattle.day.specs.State.{terms, collar_limits, set_of, band_for, admissible_set};
 
 use super::contract::Contract;
 use history::DayFault;
@@ -38,28 +38,14 @@ pub(crate) fn admissible_prices<R: Rulebook>(
 pub(crate) fn admits<G: Grid>(grid: &G, price: u64) -> bool
     ensures { result ≡ G.Grid.holds grid.now price }
 {
-    match Fraction::new(price, 1) {
-        Ok(fraction) => match nearest(grid, fraction) {
-            Some((_, distance)) => distance == 0,
-            None => false,
-        },
-        Err(_) => false,
-    }
+    let Ok(fraction) = Fraction::new(price, 1) else {
+        return false;
+    };
+    nearest(grid, fraction).is_some_and(|(_, distance)| distance == 0)
 }
 
 /// The nearest admissible price of a contract to a fraction.
-fn nearest_admissible<R: Rulebook>(
-    book: &R,
-    contract: &Contract,
-    fraction: Fraction,
-) -> Result<(u64, i64), DayFault>
-    ensures { as_price result ≡ asked_in (band_for (R.Rulebook.meaning book.now) (terms contract.now)) (terms contract.now).collar fraction.numerator fraction.divisor }
-{
-    let prices = admissible_prices(book, contract)?;
-    nearest(&prices, fraction).ok_or(DayFault::NoAdmissiblePrice)
-}
-
-/// The answer to a broker who asks a contract for a fraction.
+#[tactic(auto, unfolding(history::specs::Rulings::quoted))]
 pub(crate) fn asked<R: Rulebook>(
     book: &R,
     contract: &Contract,
@@ -67,5 +53,6 @@ pub(crate) fn asked<R: Rulebook>(
 ) -> Result<(u64, i64), DayFault>
     ensures { as_price result ≡ quoted (band_for (R.Rulebook.meaning book.now) (terms contract.now)) (terms contract.now).collar fraction.numerator fraction.divisor }
 {
-    nearest_admissible(book, contract, fraction)
+    let prices = admissible_prices(book, contract)?;
+    nearest(&prices, fraction).ok_or(DayFault::NoAdmissiblePrice)
 }

@@ -12,6 +12,13 @@ mod opening;
 mod orders;
 mod trading;
 
+/// The last minute that a day has.
+const LAST_MINUTE: u64 = 1800;
+
+const MOST_CONTRACTS: usize = 32;
+
+const MOST_ORDERS: usize = 256;
+
 /// All the memory that the day can need is there from its opening on.
 #[derive(Drop)]
 pub struct Day<R: Rulebook> {

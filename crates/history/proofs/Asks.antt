@@ -96,16 +96,16 @@ posted : (rules : Meaning) (h : History) (contract n d : ℕ) (prices : PricesIn
     → band ≡ Ok prices → answer ≡ quoted band ends n d → answer ≡ priced (closest (admissible_in band ends) n d)
 unfolding quoted
 posted rules h contract n d prices (Ok said) ends answer is given = given
-posted rules h contract n d prices (Err fault) ends answer is given = let z : ◌≡◌ {A = ℕ} 0 1 = cc in absurd (omega arith)
+posted rules h contract n d prices (Err fault) ends answer is given = absurd cc
 
 band_prices : (rules : Meaning) (h : History) (contract : ℕ) (prices : PricesInBand) (band : Result PricesInBand RuleFault) (ends : Option (ℕ × ℕ))
     → band ≡ Ok prices → Collared ends → Prices (admissible_in band ends)
 band_prices rules h contract prices (Ok said) ends is within = inside_prices ends _ within
-band_prices rules h contract prices (Err fault) ends is within = let z : ◌≡◌ {A = ℕ} 0 1 = cc in absurd (omega arith)
+band_prices rules h contract prices (Err fault) ends is within = absurd cc
 
 -- a check that is passed
 pub passed : (fault : DayFault) (ground : Bool) (rest answer : Answer) → ground ≡ false → answer ≡ refuse (fault when ground) rest → answer ≡ rest
-passed fault true rest answer is given = absurd (both_ways true is refl)
+passed fault true rest answer is given = cc
 passed fault false rest answer is given = given
 
 pub asked_right : (rules : Meaning) (h : History) → Lawful rules h → (before : History) (contract n d : ℕ) (answer : Answer) (prices : PricesInBand)

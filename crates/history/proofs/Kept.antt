@@ -1,6 +1,7 @@
 -- What one more call keeps of the orders before it.
-use Rattle.std.proofs.Common.{◌≡◌, ℕ, suc, ◌<◌, ◌≤◌, true, false, not, eqb, ltb, sym, refl, ap, ◌∙◌, inl, inr, le_refl, arith}
-use Rattle.std.proofs.lemmas.Bool.{and_parts, and_from, or_parts, or_from, or_left, or_right, ltb-true, ltb-false, lt-ltb, le-ltb, eqb-false, eqb-true, eq-eqb, ne_eqb, not-true, not_from_false, cond-true, cond-false, cases_Bool, both_ways}
+use Rattle.std.proofs.Common.{◌≡◌, ℕ, suc, ◌<◌, ◌≤◌, true, false, eqb, sym, refl, ap, ◌∙◌, le_refl, arith}
+use Rattle.std.proofs.lemmas.Bool.{or_parts, or_left, or_right, eq-eqb, ne_eqb, cond-true, cond-false}
+use Rattle.std.proofs.lemmas.Bool.Decides.{nat_tests}
 use Rattle.rulebook.specs.Meaning.{Meaning}
 use Rattle.history.specs.declared.calls.Side.{Side}
 use Rattle.history.specs.declared.calls.Side.TheVariants.{Bid, Offer}
@@ -12,22 +13,16 @@ use Rattle.history.specs.History.{History, after, minute}
 use Rattle.history.specs.Orders.{Order, order, orders, known, taken, withdrawn, hours_end, ends, waits, counters, opposite, earliest}
 use Rattle.history.proofs.Steps.{Step, refused, lists, posts, collars, clocks, halts, lifts, asks, enters, withdraws, Taken}
 
-zero_out : (k : ℕ) → (k ≡ 0 → ⊥) → 1 ≤ k
-zero_out k other = omega arith
-
 -- the parts of `known` and of `waits`
 pub record Known (h : History) (k : ℕ) : Type 0 where
   pub low : 1 ≤ k
   pub high : k ≤ orders h
 
 pub known_parts : (h : History) (k : ℕ) → known h k ≡ true → Known h k
-known_parts h k is =
-    let (positive, most) = or_parts (eqb k 0) (ltb (orders h) k) (not-true _ is) in
-    record { low = zero_out k (eqb-false k 0 positive); high = ltb-false (orders h) k most }
+known_parts h k is = record { low = grind (arith, nat_tests); high = grind (arith, nat_tests) }
 
 pub known_from : (h : History) (k : ℕ) → 1 ≤ k → k ≤ orders h → known h k ≡ true
-known_from h k low high =
-    not_from_false _ (or_from (eqb k 0) (ltb (orders h) k) (ne_eqb k 0 (λ zero. omega arith)) (le-ltb (orders h) k high))
+known_from h k low high = grind (arith, nat_tests)
 
 pub record Waiting (rules : Meaning) (h : History) (k : ℕ) : Type 0 where
   pub there : known h k ≡ true
@@ -38,26 +33,17 @@ pub record Waiting (rules : Meaning) (h : History) (k : ℕ) : Type 0 where
 
 pub waits-parts : (rules : Meaning) (h : History) (k : ℕ) → waits rules h k ≡ true → Waiting rules h k
 unfolding waits
-waits-parts rules h k is =
-    let a = and_parts (known h k) _ is in
-    let b = and_parts (eqb (order h k).partner 0) _ a.1 in
-    let c = and_parts (not (taken h k)) _ b.1 in
-    let d = and_parts (not (withdrawn h k)) _ c.1 in
-    record {
-      there = a.0;
-      alone = eqb-true (order h k).partner 0 b.0;
-      free = not-true (taken h k) c.0;
-      kept = not-true (withdrawn h k) d.0;
-      time = ltb-true (minute h) (ends rules h k) d.1;
-    }
+waits-parts rules h k is = record {
+  there = grind (arith, nat_tests);
+  alone = grind (arith, nat_tests);
+  free = grind (arith, nat_tests);
+  kept = grind (arith, nat_tests);
+  time = grind (arith, nat_tests);
+}
 
 pub waits-from : (rules : Meaning) (h : History) (k : ℕ) → Waiting rules h k → waits rules h k ≡ true
 unfolding waits
-waits-from rules h k w =
-    and_from (known h k) _ w.there
-    (and_from (eqb (order h k).partner 0) _ (eq-eqb _ 0 w.alone)
-    (and_from (not (taken h k)) _ (not_from_false _ w.free)
-    (and_from (not (withdrawn h k)) _ (not_from_false _ w.kept) (lt-ltb (minute h) (ends rules h k) w.time))))
+waits-from rules h k w = grind (arith, nat_tests, w.there, w.alone, w.free, w.kept, w.time)
 
 -- an order that was taken stays so
 pub taken_back : (h : History) (call : Call) (answer : Answer) (k : ℕ) → taken (after h call answer) k ≡ false → taken h k ≡ false
@@ -160,58 +146,14 @@ opposite-self : (side : Side) → opposite side side ≡ false
 opposite-self Bid = refl
 opposite-self Offer = refl
 
-pub record Countering (one other : Entry) : Type 0 where
-  pub contract : one.contract ≡ other.contract
-  pub price : one.price ≡ other.price
-  pub quantity : one.quantity ≡ other.quantity
-  pub sides : opposite one.side other.side ≡ true
-  pub there : one.counterparty ≡ other.participant
-  pub back : other.counterparty ≡ one.participant
-
-pub counter-parts : (one other : Entry) → counters one other ≡ true → Countering one other
+pub counter-sides : (one other : Entry) → counters one other ≡ true → opposite one.side other.side ≡ true
 unfolding counters
-counter-parts one other is =
-    let p = and_parts (eqb one.contract other.contract) _ is in
-    let q = and_parts (eqb one.price other.price) _ p.1 in
-    let r = and_parts (eqb one.quantity other.quantity) _ q.1 in
-    let s = and_parts (opposite one.side other.side) _ r.1 in
-    let t = and_parts (eqb one.counterparty other.participant) _ s.1 in
-    record {
-      contract = eqb-true _ _ p.0;
-      price = eqb-true _ _ q.0;
-      quantity = eqb-true _ _ r.0;
-      sides = s.0;
-      there = eqb-true _ _ t.0;
-      back = eqb-true _ _ t.1;
-    }
-
-pub counter-from : (one other : Entry) → Countering one other → counters one other ≡ true
-unfolding counters
-counter-from one other c =
-    and_from _ _ (eq-eqb _ _ c.contract)
-    (and_from _ _ (eq-eqb _ _ c.price)
-    (and_from _ _ (eq-eqb _ _ c.quantity)
-    (and_from _ _ c.sides (and_from _ _ (eq-eqb _ _ c.there) (eq-eqb _ _ c.back)))))
+counter-sides one other is = grind (arith, nat_tests)
 
 pub counter-flip : (one other : Entry) → counters one other ≡ false → counters other one ≡ false
-counter-flip one other no_counter =
-    elim (cases_Bool (counters other one)) [
-      | inl is ↦
-          (let c = counter-parts other one is in
-          absurd (both_ways (counters one other) no_counter (counter-from one other (record {
-            contract = sym c.contract;
-            price = sym c.price;
-            quantity = sym c.quantity;
-            sides = opposite-sym one.side other.side ∙ c.sides;
-            there = c.back;
-            back = c.there;
-          }))))
-      | inr is ↦ is
-    ]
+unfolding counters
+counter-flip one other no_counter = grind (arith, nat_tests, opposite-sym one.side other.side)
 
 pub counter-self : (entry : Entry) → counters entry entry ≡ false
-counter-self entry =
-    elim (cases_Bool (counters entry entry)) [
-      | inl is ↦ absurd (both_ways (opposite entry.side entry.side) (opposite-self entry.side) (counter-parts entry entry is).sides)
-      | inr is ↦ is
-    ]
+unfolding counters
+counter-self entry = grind (arith, nat_tests, opposite-self entry.side)

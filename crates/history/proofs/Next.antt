@@ -1,6 +1,7 @@
 -- Which orders wait after one more call, as equations.
-use Rattle.std.proofs.Common.{◌≡◌, ℕ, suc, ◌<◌, ◌≤◌, Bool, true, false, not, ◌&&◌, eqb, ltb, sym, refl, ap, ◌∙◌, inl, inr, arith}
-use Rattle.std.proofs.lemmas.Bool.{and_parts, and_from, or_parts, or_from, ltb-true, ltb-false, lt-ltb, ne_eqb, not-true, not_from_false, cond-true, cond-false, eq-eqb, both_ways}
+use Rattle.std.proofs.Common.{◌≡◌, ℕ, suc, ◌<◌, ◌≤◌, Bool, true, false, not, ◌&&◌, eqb, ltb, sym, refl, ap, inl, inr, arith}
+use Rattle.std.proofs.lemmas.Bool.{or_parts, or_from, ltb-false, ne_eqb, cond-true, cond-false, eq-eqb}
+use Rattle.std.proofs.lemmas.Bool.Decides.{nat_tests}
 use Rattle.rulebook.specs.Meaning.{Meaning}
 use Rattle.history.specs.declared.calls.Entry.{Entry}
 use Rattle.history.specs.declared.calls.Call.{Call}
@@ -12,7 +13,6 @@ use Rattle.history.specs.Orders.{Order, order, orders, taken, withdrawn, hours_e
 use Rattle.history.specs.Rulings.{Lawful}
 use Rattle.history.proofs.Firsts.{first_is}
 use Rattle.history.proofs.Steps.{Step, step, refused, lists, posts, collars, clocks, halts, lifts, asks, enters, withdraws}
-use Rattle.history.proofs.Kept.{known_parts, known_from, waits-parts, waits-from}
 
 -- two tests that pass together are one
 pub same : (a b : Bool) → (a ≡ true → b ≡ true) → (b ≡ true → a ≡ true) → a ≡ b
@@ -23,29 +23,12 @@ same false false to from = refl
 
 module _ (rules : Meaning) (h : History) where
   pub waits-clock : (to n k : ℕ) → minute h ≤ to → waits rules (after h (Clock to) (Lapsed n)) k ≡ (waits rules h k && ltb to (ends rules h k))
-  waits-clock to n k later = same _ _
-      (λ is.
-      let w = waits-parts rules (after h (Clock to) (Lapsed n)) k is in
-      and_from _ _ (waits-from rules h k (record { there = w.there; alone = w.alone; free = w.free; kept = w.kept; time = omega (arith, w.time, later) }))
-      (lt-ltb to (ends rules h k) w.time))
-      (λ is.
-      let p = and_parts (waits rules h k) (ltb to (ends rules h k)) is in
-      let w = waits-parts rules h k p.0 in
-      waits-from rules (after h (Clock to) (Lapsed n)) k
-      (record { there = w.there; alone = w.alone; free = w.free; kept = w.kept; time = ltb-true to (ends rules h k) p.1 }))
+  unfolding waits
+  waits-clock to n k later = grind (arith, nat_tests)
 
   pub waits-withdraw : (j participant k : ℕ) → waits rules (after h (Withdraw j participant) Done) k ≡ (waits rules h k && not (eqb k j))
-  waits-withdraw j participant k = same _ _
-      (λ is.
-      let w = waits-parts rules (after h (Withdraw j participant) Done) k is in
-      let d = or_parts (eqb k j) (withdrawn h k) w.kept in
-      and_from _ _ (waits-from rules h k (record { there = w.there; alone = w.alone; free = w.free; kept = d.1; time = w.time }))
-      (not_from_false _ d.0))
-      (λ is.
-      let q = and_parts (waits rules h k) (not (eqb k j)) is in
-      let w = waits-parts rules h k q.0 in
-      waits-from rules (after h (Withdraw j participant) Done) k
-      (record { there = w.there; alone = w.alone; free = w.free; kept = or_from _ _ (not-true _ q.1) w.kept; time = w.time }))
+  unfolding waits
+  waits-withdraw j participant k = grind (arith, nat_tests)
 
   order_enter : (e : Entry) (p k : ℕ) → k ≤ orders h → order (after h (Enter e) (Ordered (suc (orders h)) p)) k ≡ order h k
   order_enter e p k old = cond-false (eqb k (suc (orders h))) _ _ (ne_eqb k (suc (orders h)) (λ is. omega arith))
@@ -53,62 +36,33 @@ module _ (rules : Meaning) (h : History) where
   -- an order of the day before
   pub waits-enter : (e : Entry) (p k : ℕ) → k ≤ orders h
       → waits rules (after h (Enter e) (Ordered (suc (orders h)) p)) k ≡ (waits rules h k && not (eqb k p))
+  unfolding waits
   waits-enter e p k old =
-      let q = order_enter e p k old in
-      let t : ends rules (after h (Enter e) (Ordered (suc (orders h)) p)) k ≡ ends rules h k = ap (λ (o : Order). hours_end rules o.before o.entry) q in
-      same _ _
-      (λ is.
-      let w = waits-parts rules (after h (Enter e) (Ordered (suc (orders h)) p)) k is in
-      let d = or_parts (eqb k p) (taken h k) w.free in
-      and_from _ _ (waits-from rules h k (record {
-        there = known_from h k (known_parts (after h (Enter e) (Ordered (suc (orders h)) p)) k w.there).low old;
-        alone = sym (ap (λ (o : Order). o.partner) q) ∙ w.alone;
-        free = d.1;
-        kept = w.kept;
-        time = omega (arith, w.time, t);
-      })) (not_from_false _ d.0))
-      (λ is.
-      let y = and_parts (waits rules h k) (not (eqb k p)) is in
-      let w = waits-parts rules h k y.0 in
-      let b = known_parts h k w.there in
-      waits-from rules (after h (Enter e) (Ordered (suc (orders h)) p)) k (record {
-        there = known_from (after h (Enter e) (Ordered (suc (orders h)) p)) k b.low (omega (arith, b.high));
-        alone = ap (λ (o : Order). o.partner) q ∙ w.alone;
-        free = or_from _ _ (not-true _ y.1) w.free;
-        kept = w.kept;
-        time = omega (arith, w.time, t);
-      }))
+      let same = order_enter e p k old in
+      let end : ends rules (after h (Enter e) (Ordered (suc (orders h)) p)) k ≡ ends rules h k = ap (λ (o : Order). hours_end rules o.before o.entry) same in
+      grind (arith, nat_tests, same, end)
 
   -- the new order waits where it has no partner, nobody named it before, and its hours hold the minute
   pub waits-new : (e : Entry) (k : ℕ) → k ≡ suc (orders h) → taken h k ≡ false → withdrawn h k ≡ false → minute h < hours_end rules h e
       → waits rules (after h (Enter e) (Ordered (suc (orders h)) 0)) k ≡ true
+  unfolding waits
   waits-new e k new free kept time =
       let here : order (after h (Enter e) (Ordered (suc (orders h)) 0)) k ≡ record { entry = e; before = h; partner = 0 } =
       cond-true (eqb k (suc (orders h))) _ _ (eq-eqb k (suc (orders h)) new) in
-      let t : ends rules (after h (Enter e) (Ordered (suc (orders h)) 0)) k ≡ hours_end rules h e = ap (λ (o : Order). hours_end rules o.before o.entry) here in
-      waits-from rules (after h (Enter e) (Ordered (suc (orders h)) 0)) k (record {
-        there = known_from (after h (Enter e) (Ordered (suc (orders h)) 0)) k (omega (arith, new)) (omega (arith, new));
-        alone = ap (λ (o : Order). o.partner) here;
-        free = or_from (eqb k 0) (taken h k) (ne_eqb k 0 (λ is. omega arith)) free;
-        kept = kept;
-        time = omega (arith, time, t);
-      })
+      let end : ends rules (after h (Enter e) (Ordered (suc (orders h)) 0)) k ≡ hours_end rules h e = ap (λ (o : Order). hours_end rules o.before o.entry) here in
+      grind (arith, nat_tests, here, end)
 
   -- a new order with a partner does not wait, nor does one that is not there
   pub waits-not : (e : Entry) (p k : ℕ) → 1 ≤ p → k ≡ suc (orders h) → waits rules (after h (Enter e) (Ordered (suc (orders h)) p)) k ≡ false
-  waits-not e p k some new = same _ _
-      (λ is.
-      let w = waits-parts rules (after h (Enter e) (Ordered (suc (orders h)) p)) k is in
+  unfolding waits
+  waits-not e p k some new =
       let here : order (after h (Enter e) (Ordered (suc (orders h)) p)) k ≡ record { entry = e; before = h; partner = p } =
       cond-true (eqb k (suc (orders h))) _ _ (eq-eqb k (suc (orders h)) new) in
-      let alone : p ≡ 0 = sym (ap (λ (o : Order). o.partner) here) ∙ w.alone in
-      absurd (omega arith))
-      (λ is. absurd (both_ways false refl is))
+      grind (arith, nat_tests, here)
 
   pub waits-known : (k : ℕ) → orders h < k → waits rules h k ≡ false
-  waits-known k more = same _ _
-      (λ is. let b = known_parts h k (waits-parts rules h k is).there in absurd (omega (arith, b.high)))
-      (λ is. absurd (both_ways false refl is))
+  unfolding waits
+  waits-known k more = grind (arith, nat_tests)
 
 -- no order is named before it came
 pub record Unnamed (h : History) (k : ℕ) : Type 0 where

@@ -14,7 +14,7 @@ use Rattle.history.specs.Rulings.{◌when◌, refuse, outside, Fixed, Lawful}
 use Rattle.history.specs.Law.{Law, Trade, Joined, ShareAnOrder}
 use Rattle.history.proofs.Firsts.{Found, first_is}
 use Rattle.history.proofs.Steps.{Step, step}
-use Rattle.history.proofs.Kept.{known_parts, known_from, waits-parts, taken_on, New, same_order, new_order, waits_back, counter-parts, counter-flip, counter-self}
+use Rattle.history.proofs.Kept.{known_parts, known_from, waits-parts, taken_on, New, same_order, new_order, waits_back, counter-sides, counter-flip, counter-self}
 use Rattle.history.proofs.Asks.{passed, asked_right}
 
 module _ (rules : Meaning) (h : History) where
@@ -81,7 +81,7 @@ done_if : (waiting : Bool) (answer : Answer) → answer ≡ refuse (NotWaiting w
     → (answer ≡ Done → waiting ≡ true) × (waiting ≡ true → answer ≡ Done)
 done_if true answer given = (λ _. refl, λ _. given)
 done_if false answer given =
-    (λ done. absurd (let z : ◌≡◌ {A = ℕ} 0 1 = cc in omega arith), λ is. absurd (both_ways false refl is))
+    (λ done. cc, λ is. cc)
 
 withdrawable : (rules : Meaning) (h : History) (k : ℕ) → known h k ≡ true → (answer : Answer)
     → Fixed rules h (Withdraw k (order h k).entry.participant) answer
@@ -169,7 +169,7 @@ joined_new rules h call answer s j k new t =
     let x = same_order rules h call answer s j q.high in
     record {
       in_order = (t.somebody, omega (arith, q.high, new.number));
-      sides = rw (x, y) (counter-parts _ _ q.counter).sides;
+      sides = rw (x, y) (counter-sides _ _ q.counter);
       counter = rw (x, y) q.counter;
       waited = rw y q.waited;
       earliest = λ i less waiting.

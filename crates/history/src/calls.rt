@@ -18,6 +18,13 @@ pub struct Entry {
     pub counterparty: u64,
 }
 
+impl Entry {
+    pub const MOST_QUANTITY: u64 = 10_000;
+
+    /// The last number that a participant may have.
+    pub const LAST_PARTICIPANT: u64 = 9_999;
+}
+
 #[derive(Clone, Copy, PartialEq, Eq, Debug)]
 pub enum Call {
     /// A product is listed as the next contract.

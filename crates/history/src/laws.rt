@@ -2,6 +2,7 @@
 ghost use Rattle.history.specs.Law.{Law, NoCollarTakesNothing};
 
 /// Every day whose calls were answered as the rules fix is sound, under every rulebook.
+#[tactic(auto, using(crate::proofs::Whole::law))]
 pub fn every_lawful_day_is_sound() -> bool
     ensures { Law }
 {
@@ -9,6 +10,7 @@ pub fn every_lawful_day_is_sound() -> bool
 }
 
 /// Where there is no collar, no price of the band is taken away.
+#[tactic(auto, using(crate::proofs::Collarless::no_collar_takes_nothing))]
 pub fn no_collar_takes_nothing() -> bool
     ensures { NoCollarTakesNothing }
 {

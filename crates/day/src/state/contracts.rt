@@ -6,7 +6,7 @@ ghost use Rattle.day.specs.State.{terms, view};
 
 use super::Day;
 use crate::contract::Contract;
-use crate::numbered::{numbered, replace};
+use crate::numbered::numbered;
 use history::DayFault;
 use rulebook::Rulebook;
 
@@ -15,7 +15,7 @@ impl<R: Rulebook> Day<R> {
     pub(super) fn find(&self, contract: u64) -> Result<Contract, DayFault>
         ensures { found result ≡ finding (view self.now) contract }
     {
-        numbered(self.contracts.as_slice(), contract)
+        numbered(self.contracts.as_slice(), contract).ok_or(DayFault::ContractNotListed)
     }
 
     /// How many contracts are listed.
@@ -41,6 +41,6 @@ impl<R: Rulebook> Day<R> {
         ensures after { view self.new ≡ with_terms (view self.old) contract (terms changed) }
         ensures book { self.new.book ≡ self.old.book }
     {
-        replace(self.contracts.as_mut_slice(), contract, changed);
+        self.contracts[contract as usize - 1] = changed;
     }
 }

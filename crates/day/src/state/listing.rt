@@ -1,14 +1,14 @@
 //! The calls that set up contracts: list, post, collar, halt and lift.
-ghost use Rattle.std.specs.Prelude.{◌≡◌, true, is_ok, if◌then◌else◌};
-ghost use Rattle.history.specs.declared.Call.TheVariants.{List, Post, Collar, Halt, Lift};
-ghost use Rattle.rulebook.specs.Sheets.{sheet, with_figure};
-ghost use Rattle.history.specs.History.{letter_named, takes};
+ghost use Rattle.std.specs.Prelude.{◌≡◌, is_ok, IfOk, if◌then◌else◌};
+ghost use Rattle.history.specs.declared.Call.TheVariants.{List, Post, Collar as Collaring, Halt, Lift};
+ghost use Rattle.rulebook.specs.Sheets.{posting};
 ghost use Rattle.history.specs.Rulings.{ruled_on};
-ghost use Rattle.day.specs.Calls.{as_listed, as_done, letter_for, changed};
+ghost use Rattle.day.specs.Calls.{as_listed, as_done, letter_for, halting, changed};
 ghost use Rattle.day.specs.Following.{left};
 ghost use Rattle.day.specs.State.{view, board_of};
 
-use super::Day;
+use super::{Day, MOST_CONTRACTS};
+use crate::collar::Collar;
 use crate::contract::Contract;
 use history::DayFault;
 use rulebook::{FigureFault, Figures, Letter, Rulebook};
@@ -23,7 +23,7 @@ impl<R: Rulebook> Day<R> {
     {
         self.book.hours(product)?;
         let listed = self.listed();
-        if listed >= 32 {
+        if listed >= MOST_CONTRACTS {
             return Err(DayFault::ContractsFull);
         }
         self.add(Contract {
@@ -44,19 +44,19 @@ impl<R: Rulebook> Day<R> {
     {
         let letter = figure_letter(letter, value)?;
         let mut found = self.find(contract)?;
-        found.figures = with_figure(found.figures, letter, value);
+        found.figures.post(letter, value)?;
         self.put(contract, found);
         Ok(())
     }
 
     /// Sets a contract's collar in pips, 0 and 0 to remove it.
     pub fn collar(&mut self, contract: u64, low: u64, high: u64) -> Result<(), DayFault>
-        ensures answer { as_done result ≡ ruled_on (R.Rulebook.meaning self.old.book) (board_of (view self.old)) (Collar contract low high) }
-        ensures after { view self.new ≡ (if is_ok result then changed (R.Rulebook.meaning self.old.book) (view self.old) (Collar contract low high) else view self.old) }
-        ensures leaves { view self.new ≡ left (R.Rulebook.meaning self.old.book) (view self.old) (Collar contract low high) }
+        ensures answer { as_done result ≡ ruled_on (R.Rulebook.meaning self.old.book) (board_of (view self.old)) (Collaring contract low high) }
+        ensures after { view self.new ≡ (if is_ok result then changed (R.Rulebook.meaning self.old.book) (view self.old) (Collaring contract low high) else view self.old) }
+        ensures leaves { view self.new ≡ left (R.Rulebook.meaning self.old.book) (view self.old) (Collaring contract low high) }
         ensures book { self.new.book ≡ self.old.book }
     {
-        let collar = crate::collar::Collar::new(low, high)?;
+        let collar = Collar::new(low, high)?;
         let mut found = self.find(contract)?;
         found.collar = collar;
         self.put(contract, found);
@@ -70,13 +70,7 @@ impl<R: Rulebook> Day<R> {
         ensures leaves { view self.new ≡ left (R.Rulebook.meaning self.old.book) (view self.old) (Halt contract) }
         ensures book { self.new.book ≡ self.old.book }
     {
-        let mut found = self.find(contract)?;
-        if found.halted {
-            return Err(DayFault::HaltUnchanged);
-        }
-        found.halted = true;
-        self.put(contract, found);
-        Ok(())
+        self.set_halt(contract, true)
     }
 
     /// Lifts the halt of a contract.
@@ -86,47 +80,35 @@ impl<R: Rulebook> Day<R> {
         ensures leaves { view self.new ≡ left (R.Rulebook.meaning self.old.book) (view self.old) (Lift contract) }
         ensures book { self.new.book ≡ self.old.book }
     {
+        self.set_halt(contract, false)
+    }
+
+    /// Halts a contract, or lifts its halt.
+    fn set_halt(&mut self, contract: u64, halted: bool) -> Result<(), DayFault>
+        ensures answer { as_done result ≡ ruled_on (R.Rulebook.meaning self.old.book) (board_of (view self.old)) (halting contract halted) }
+        ensures after { view self.new ≡ (if is_ok result then changed (R.Rulebook.meaning self.old.book) (view self.old) (halting contract halted) else view self.old) }
+        ensures leaves { view self.new ≡ left (R.Rulebook.meaning self.old.book) (view self.old) (halting contract halted) }
+        ensures book { self.new.book ≡ self.old.book }
+    {
         let mut found = self.find(contract)?;
-        if !found.halted {
+        if found.halted == halted {
             return Err(DayFault::HaltUnchanged);
         }
-        found.halted = false;
+        found.halted = halted;
         self.put(contract, found);
         Ok(())
     }
 }
 
 /// The letter of a character under which a value may be posted.
+#[tactic(auto, unfolding(history::specs::History::letter_named, history::specs::History::takes))]
 fn figure_letter(letter: char, value: u64) -> Result<Letter, DayFault>
-    ensures { result ≡ letter_for letter value }
+    ensures value { result ≡ letter_for letter value }
+    ensures fits { IfOk result (λ letter. posting letter value ≡ Ok tt) }
 {
-    let letter = letter_named(letter).ok_or(FigureFault::UnknownLetter)?;
-    if !takes(letter, value) {
+    let letter = Letter::from_char(letter).ok_or(FigureFault::UnknownLetter)?;
+    if value > letter.most() {
         return Err(FigureFault::ValueOverLimit.into());
     }
     Ok(letter)
-}
-
-/// The letter of a character, if it has one.
-fn letter_named(character: char) -> Option<Letter>
-    ensures { result ≡ letter_named character }
-{
-    Letter::from_char(character)
-}
-
-/// Whether a value may be posted under a letter.
-fn takes(letter: Letter, value: u64) -> bool
-    ensures { result ≡ takes letter value }
-{
-    value <= letter.most()
-}
-
-/// Figures with one more posted, which its letter takes.
-fn with_figure(figures: Figures, letter: Letter, value: u64) -> Figures
-    requires { takes letter value ≡ true }
-    ensures { sheet result ≡ with_figure (sheet figures) letter value }
-{
-    let mut changed = figures;
-    let _ = changed.post(letter, value);
-    changed
 }

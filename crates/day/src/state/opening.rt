@@ -4,7 +4,7 @@ ghost use Rattle.history.specs.History.{opened};
 ghost use Rattle.day.specs.Following.{Brings};
 ghost use Rattle.day.specs.State.{view, fresh};
 
-use super::Day;
+use super::{Day, MOST_CONTRACTS, MOST_ORDERS};
 use rulebook::Rulebook;
 use std::alloc::{AllocError, Global};
 
@@ -15,8 +15,8 @@ impl<R: Rulebook + Drop> Day<R> {
         ensures book { IfOk result (λ day. day.book ≡ book) }
         ensures history { IfOk result (λ day. Brings (R.Rulebook.meaning book) opened (view day)) }
     {
-        let contracts = Vec::with_capacity(heap, 32)?;
-        let orders = Vec::with_capacity(heap, 256)?;
+        let contracts = Vec::with_capacity(heap, MOST_CONTRACTS)?;
+        let orders = Vec::with_capacity(heap, MOST_ORDERS)?;
         Ok(Day {
             book,
             minute: 0,

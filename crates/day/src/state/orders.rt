@@ -1,5 +1,6 @@
 //! The orders: by their numbers from 1, changed one by one or all together.
-ghost use Rattle.std.specs.Prelude.{◌≡◌, ◌<◌, ◌≤◌, false, length, vec_len};
+ghost use Rattle.std.specs.Prelude.{◌≡◌, ◌<◌, false, length, vec_len, IfSome};
+ghost use Rattle.std.specs.Option.{unwrap_or};
 ghost use Rattle.history.specs.Orders.{how_many};
 ghost use Rattle.history.specs.Board.{lapses_on};
 ghost use Rattle.history.specs.Rulings.{outside};
@@ -8,6 +9,7 @@ ghost use Rattle.day.specs.State.{view, board_of};
 
 use super::Day;
 use crate::matching::{count_due, earliest_countering, lapse_due};
+use crate::numbered::numbered;
 use crate::order::{Order, Status};
 use history::{DayFault, Entry};
 use rulebook::Rulebook;
@@ -28,10 +30,10 @@ impl<R: Rulebook> Day<R> {
         count_due(self.orders.as_slice(), to)
     }
 
-    /// The number of the earliest waiting order that counters an entry, 0 for none.
-    pub(super) fn partner(&self, incoming: &Entry) -> u64
-        ensures value { result ≡ partner_on (view self.now) incoming.now }
-        ensures bound { result ≤ vec_len self.now.orders }
+    /// The number of the earliest waiting order that counters an entry.
+    pub(super) fn partner(&self, incoming: &Entry) -> Option<u64>
+        ensures value { unwrap_or result 0 ≡ partner_on (view self.now) incoming.now }
+        ensures known { IfSome result (λ number. outside (vec_len self.now.orders) number ≡ false) }
     {
         earliest_countering(self.orders.as_slice(), incoming)
     }
@@ -48,10 +50,7 @@ impl<R: Rulebook> Day<R> {
     pub(super) fn order(&self, number: u64) -> Result<Order, DayFault>
         ensures { result ≡ ordering (view self.now) number }
     {
-        if number == 0 || number > self.accepted() as u64 {
-            return Err(DayFault::NoSuchOrder);
-        }
-        Ok(self.orders.as_slice()[number as usize - 1])
+        numbered(self.orders.as_slice(), number).ok_or(DayFault::NoSuchOrder)
     }
 
     /// Gives an accepted order another status.

@@ -2,14 +2,15 @@
 ghost use Rattle.std.specs.Prelude.{◌≡◌, suc, ◌<◌, length, is_ok, if◌then◌else◌, vec_len, OnOk};
 ghost use Rattle.history.specs.declared.Answer.TheVariants.{Ordered};
 ghost use Rattle.history.specs.declared.Call.TheVariants.{Clock, Enter, Withdraw};
+ghost use Rattle.history.specs.declared.DayFault.TheVariants.{EntryOutsideLimits};
 ghost use Rattle.rulebook.specs.Meaning.{hours_of};
 ghost use Rattle.history.specs.Prices.{closing_in};
-ghost use Rattle.history.specs.Rulings.{ruled_on};
-ghost use Rattle.day.specs.Calls.{as_done, as_lapsed, as_ordered, changed, partner_on, paired, entered, after_entry, within_limits, admitted_at, admitted_by_contract, admitted};
+ghost use Rattle.history.specs.Rulings.{◌when◌, outside, ruled_on};
+ghost use Rattle.day.specs.Calls.{as_done, as_lapsed, as_ordered, changed, partner_on, paired, entered, after_entry, deny, within_limits, admitted_at, admitted_by_contract, admitted};
 ghost use Rattle.day.specs.Following.{answered, left};
 ghost use Rattle.day.specs.State.{terms, view, board_of};
 
-use super::Day;
+use super::{Day, LAST_MINUTE, MOST_ORDERS};
 use crate::contract::Contract;
 use crate::order::{Order, Status};
 use crate::prices::{admissible_prices, admits};
@@ -24,7 +25,7 @@ impl<R: Rulebook> Day<R> {
         ensures leaves { view self.new ≡ left (R.Rulebook.meaning self.old.book) (view self.old) (Clock to) }
         ensures book { self.new.book ≡ self.old.book }
     {
-        if to > 1800 {
+        if to > LAST_MINUTE {
             return Err(DayFault::MinuteOverLimit);
         }
         if to < self.minute {
@@ -47,7 +48,7 @@ impl<R: Rulebook> Day<R> {
         if participant != order.entry.participant {
             return Err(DayFault::AnotherParticipants);
         }
-        if !matches!(order.status, Status::Waiting) {
+        if !order.waits() {
             return Err(DayFault::NotWaiting);
         }
         self.mark(number, Status::Withdrawn);
@@ -76,31 +77,26 @@ impl<R: Rulebook> Day<R> {
     {
         let number = self.accepted() as u64 + 1;
         let partner = self.partner(&entry);
-        if partner == 0 {
-            self.accept(Order {
-                entry,
-                until,
-                status: Status::Waiting,
-            });
-        } else {
-            self.mark(partner, Status::Traded);
-            self.accept(Order {
-                entry,
-                until,
-                status: Status::Traded,
-            });
-        }
-        (number, partner)
+        let status = match partner {
+            Some(partner) => {
+                self.mark(partner, Status::Traded);
+                Status::Traded
+            }
+            None => Status::Waiting,
+        };
+        self.accept(Order {
+            entry,
+            until,
+            status,
+        });
+        (number, partner.unwrap_or(0))
     }
 
     /// When the hours of a contract that hold the present minute end, `None` while it is closed.
     fn open_until(&self, contract: &Contract) -> Option<u64>
         ensures { result ≡ closing_in (hours_of (R.Rulebook.meaning self.now.book) contract.now.product) self.now.minute }
     {
-        match self.book.hours(contract.product) {
-            Ok(class) => class.closing(self.minute),
-            Err(_) => None,
-        }
+        self.book.hours(contract.product).ok()?.closing(self.minute)
     }
 
     /// The checks of an entry against its contract.
@@ -133,7 +129,7 @@ impl<R: Rulebook> Day<R> {
     {
         check_limits(entry)?;
         let until = self.admit_by_contract(entry)?;
-        if self.accepted() >= 256 {
+        if self.accepted() >= MOST_ORDERS {
             return Err(DayFault::OrdersFull);
         }
         Ok(until)
@@ -144,14 +140,26 @@ impl<R: Rulebook> Day<R> {
 fn check_limits(entry: &Entry) -> Result<(), DayFault>
     ensures { result ≡ within_limits entry.now }
 {
-    if entry.quantity == 0 || entry.quantity > 10_000 {
-        return Err(DayFault::EntryOutsideLimits(EntryField::Quantity));
+    check_limit(entry.quantity, Entry::MOST_QUANTITY, EntryField::Quantity)?;
+    check_limit(
+        entry.participant,
+        Entry::LAST_PARTICIPANT,
+        EntryField::Participant,
+    )?;
+    check_limit(
+        entry.counterparty,
+        Entry::LAST_PARTICIPANT,
+        EntryField::Counterparty,
+    )
+}
+
+/// The check that a field is from 1 to its most.
+fn check_limit(value: u64, most: u64, field: EntryField) -> Result<(), DayFault>
+    ensures { result ≡ deny (EntryOutsideLimits field when outside most value) (Ok tt) }
+{
+    if (1..=most).contains(&value) {
+        Ok(())
+    } else {
+        Err(DayFault::EntryOutsideLimits(field))
     }
-    if entry.participant == 0 || entry.participant > 9_999 {
-        return Err(DayFault::EntryOutsideLimits(EntryField::Participant));
-    }
-    if entry.counterparty == 0 || entry.counterparty > 9_999 {
-        return Err(DayFault::EntryOutsideLimits(EntryField::Counterparty));
-    }
-    Ok(())
 }
