@@ -1,12 +1,12 @@
-use Rattle.std.proofs.Common.{arith}
-use Rattle.line.proofs.Cuts.{found, passed, ended}
+use Rattle.std.proofs.Common.{◌≡◌, ◌≢◌, sym, refl, ◌∙◌, tests, rules}
+use Rattle.std.proofs.lemmas.Iterator.{YieldsList-from_slice, IsFirst-from_position, index_from_first}
+use Rattle.line.specs.Lines.{before_first}
+use Rattle.line.proofs.Cuts.{stopped, passed}
 use Rattle.line.proofs.cutting.before_first.Goals as goal
 
-pub returns-then-byte-stop : goal.returns-then-byte-stop
-returns-then-byte-stop c = record { value = found _ _ _ (omega arith) c.if-byte-stop.true c.loop-i.invariant.0; within = omega arith }
-
-pub loop-i-preserved : goal.loop-i-preserved
-loop-i-preserved c = (passed _ _ _ (omega arith) c.if-byte-stop.false c.loop-i.invariant.0, omega arith)
-
-pub returns : goal.returns
-returns c = record { value = ended _ _ _ (omega arith) (omega arith) c.loop-i.invariant.0; within = omega arith }
+pub returns-clause-value : goal.returns-clause-value
+returns-clause-value c =
+    let stop = c.args.stop in
+    let bytes = c.args.bytes.now in
+    let found = IsFirst-from_position _ _ c.position.result (λ b. b ≡ stop) (λ b. b ≢ stop) c.position.ensures.ran (YieldsList-from_slice bytes cc) (λ x q k. search (rules, tests)) (λ x q k. search (rules, tests)) in
+    c.unwrap_or.ensures ∙ sym (index_from_first (before_first stop) (λ b. b ≡ stop) (λ b. b ≢ stop) refl (stopped stop) (passed stop) bytes c.position.result found)
