@@ -29,8 +29,20 @@ pub fn answer_line<R: Rulebook>(
     if LONGEST_REPLY > out.capacity() - out.len() {
         return Err(TooLittleRoom);
     }
-    let reply = reply_to(day, line);
-    reply.write_to(out)
+    answer_one(day, line, out);
+    Ok(())
+}
+
+/// Answers a line, for whose reply there is room.
+fn answer_one<R: Rulebook>(day: &mut Day<R>, line: &[u8], out: &mut Vec<u8>)
+    requires { vec_len out.old + 44 ≤ vec_capacity out.old }
+    ensures bytes { out.new.items ≡ out.old.items ++ text (reply (R.Rulebook.meaning day.old.book) (view day.old) line.now) }
+    ensures within { vec_len out.new ≤ vec_len out.old + 44 }
+    ensures capacity { vec_capacity out.new ≡ vec_capacity out.old }
+    ensures after { view day.new ≡ left_by_line (R.Rulebook.meaning day.old.book) (view day.old) line.now }
+    ensures book { day.new.book ≡ day.old.book }
+{
+    reply_to(day, line).write_to(out).unwrap();
 }
 
 /// Answers the lines of an input that a byte 10 ends, for whose replies there is room, and hands back what follows them.
@@ -49,7 +61,7 @@ pub(crate) fn answer_ended<'a, R: Rulebook>(
 {
     let mut reader = LineReader::new(input);
     while let Some(line) = reader.next_ended() {
-        let _ = answer_line(day, line, out);
+        answer_one(day, line, out);
     }
     reader.rest()
 }
@@ -63,7 +75,7 @@ pub(crate) fn answer_last<R: Rulebook>(day: &mut Day<R>, rest: &[u8], out: &mut 
     ensures book { day.new.book ≡ day.old.book }
 {
     if !rest.is_empty() {
-        let _ = answer_line(day, rest, out);
+        answer_one(day, rest, out);
     }
 }
 
@@ -104,10 +116,5 @@ pub fn answer_all<R: Rulebook>(
 fn line_count(input: &[u8]) -> usize
     ensures { result ≡ length (lines input.now) }
 {
-    let mut reader = LineReader::new(input);
-    let mut count = 0;
-    while let Some(_line) = reader.next_line() {
-        count += 1;
-    }
-    count
+    LineReader::new(input).count()
 }

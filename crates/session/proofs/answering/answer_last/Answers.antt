@@ -1,12 +1,18 @@
-use Rattle.std.proofs.Common.{◌≡◌, ℕ, ◌<◌, true, cond, ◌≢◌, List, [], ◌∷◌, ◌++◌, length, is_ok, vec_items, sym, refl, ap, ◌∙◌, arith}
+use Rattle.std.proofs.Common.{◌≡◌, ℕ, ◌≢◌, List, [], ◌∷◌, ◌++◌, length, vec_items, sym, refl, ap, ◌∙◌, arith}
 use Rattle.std.proofs.lemmas.List.{append-nil}
-use Rattle.std.proofs.lemmas.Bool.{le-leb, eqb-true, eqb-false}
+use Rattle.std.proofs.lemmas.Bool.{eqb-true, eqb-false}
 use Rattle.day.specs.State.{view}
 use Rattle.line.specs.Lines.{lines}
 use Rattle.reply.specs.Replies.{text}
-use Rattle.session.specs.Talk.{reply, left_by_line, printed, left_by_lines}
+use Rattle.session.specs.Talk.{reply, printed, left_by_lines}
 use Rattle.session.proofs.Lines.{sole_line, no_line}
 use Rattle.session.proofs.answering.answer_last.Goals as goal
+
+pub answer_one-requires : goal.answer_one-requires
+answer_one-requires g c =
+    let other : length c.args.rest.now ≢ 0 = eqb-false (length c.args.rest.now) 0 (sym c.if-not-is_empty.ensures) in
+    let sole = ap (λ (ls : List (List ℕ)). length ls) (sole_line c.args.rest.now c.requires.0 (omega arith)) in
+    omega (arith, c.requires.1, sole)
 
 pub returns-then-not-is_empty : goal.returns-then-not-is_empty
 returns-then-not-is_empty g c =
@@ -15,17 +21,14 @@ returns-then-not-is_empty g c =
     let items = vec_items c.args.out.now in
     let rest = c.args.rest.now in
     let other : length rest ≢ 0 = eqb-false (length rest) 0 (sym c.if-not-is_empty.ensures) in
-    let some : 0 < length rest = omega arith in
-    let sole : lines rest ≡ rest ∷ [] = sole_line rest c.requires.0 some in
-    let long : length (lines rest) ≡ 1 = ap (λ (ls : List (List ℕ)). length ls) sole in
-    let said = c.answer_line.ensures in
-    let fine : is_ok c.answer_line.result ≡ true = said.room ∙ le-leb 44 _ (omega (arith, c.requires.1, long)) in
+    let sole : lines rest ≡ rest ∷ [] = sole_line rest c.requires.0 (omega arith) in
+    let said = c.answer_one.ensures in
     record {
-      bytes = said.bytes ∙ (λ k. items ++ cond (fine k) (text (reply rules s rest)) [])
+      bytes = said.bytes
           ∙ ap (λ (bytes : List ℕ). items ++ bytes) (sym (append-nil (text (reply rules s rest))))
           ∙ ap (λ (ls : List (List ℕ)). items ++ printed rules s ls) (sym sole);
       capacity = said.capacity;
-      after = said.after ∙ (λ k. cond (fine k) (left_by_line rules s rest) s) ∙ ap (λ (ls : List (List ℕ)). left_by_lines rules s ls) (sym sole);
+      after = said.after ∙ ap (λ (ls : List (List ℕ)). left_by_lines rules s ls) (sym sole);
       book = said.book;
     }
 

@@ -1,9 +1,8 @@
-use Rattle.std.proofs.Common.{◌≡◌, ℕ, ◌-◌, ◌*◌, List, [], ◌++◌, length, take, drop, vec_items, vec_len, sym, refl, ap, ◌∙◌, arith}
+use Rattle.std.proofs.Common.{◌≡◌, ℕ, List, [], ◌++◌, length, drop, vec_items, vec_len, ap, ◌∙◌, arith}
 use Rattle.std.proofs.lemmas.List.{drop_all, length-drop}
 use Rattle.day.specs.State.{view}
 use Rattle.line.specs.Lines.{lines}
 use Rattle.session.specs.Talk.{printed, left_by_lines}
-use Rattle.session.specs.Pieces.{standing}
 use Rattle.session.proofs.Holding.{held_is}
 use Rattle.session.proofs.Lines.{lines_short, lawful_on}
 use Rattle.session.proofs.session.Session.close.Goals as goal

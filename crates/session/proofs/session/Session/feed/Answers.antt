@@ -1,7 +1,7 @@
-use Rattle.std.proofs.Common.{◌≡◌, ℕ, ◌+◌, ◌-◌, ◌*◌, ◌≤◌, List, [], ◌++◌, length, take, drop, vec_items, vec_len, sym, refl, ap, ◌∙◌, arith}
+use Rattle.std.proofs.Common.{◌≡◌, ℕ, ◌+◌, ◌-◌, List, ◌++◌, length, take, drop, vec_items, vec_len, ap, ◌∙◌, arith}
 use Rattle.std.proofs.lemmas.List.{length-append, drop-append-le, length-drop}
 use Rattle.day.specs.State.{view}
-use Rattle.line.specs.Lines.{lines, ended, unended}
+use Rattle.line.specs.Lines.{ended, unended}
 use Rattle.session.specs.Talk.{printed, left_by_lines}
 use Rattle.session.specs.Pieces.{standing, read_of, held_with}
 use Rattle.session.proofs.Holding.{held_is, ended_short, left_over, left_less}
