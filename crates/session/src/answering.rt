@@ -66,19 +66,6 @@ pub(crate) fn answer_ended<'a, R: Rulebook>(
     reader.rest()
 }
 
-/// Answers what follows the last ended line, which is one line or none.
-pub(crate) fn answer_last<R: Rulebook>(day: &mut Day<R>, rest: &[u8], out: &mut Vec<u8>)
-    requires { (ended rest.now ≡ []) × (44 * length (lines rest.now) + vec_len out.old ≤ vec_capacity out.old) }
-    ensures bytes { out.new.items ≡ out.old.items ++ printed (R.Rulebook.meaning day.old.book) (view day.old) (lines rest.now) }
-    ensures capacity { vec_capacity out.new ≡ vec_capacity out.old }
-    ensures after { view day.new ≡ left_by_lines (R.Rulebook.meaning day.old.book) (view day.old) (lines rest.now) }
-    ensures book { day.new.book ≡ day.old.book }
-{
-    if !rest.is_empty() {
-        answer_one(day, rest, out);
-    }
-}
-
 /// Answers every line of an input, for whose replies there is room.
 pub(crate) fn answer_lines<R: Rulebook>(day: &mut Day<R>, input: &[u8], out: &mut Vec<u8>)
     requires { 44 * length (lines input.now) + vec_len out.old ≤ vec_capacity out.old }
@@ -87,8 +74,9 @@ pub(crate) fn answer_lines<R: Rulebook>(day: &mut Day<R>, input: &[u8], out: &mu
     ensures after { view day.new ≡ left_by_lines (R.Rulebook.meaning day.old.book) (view day.old) (lines input.now) }
     ensures book { day.new.book ≡ day.old.book }
 {
-    let rest = answer_ended(day, input, out);
-    answer_last(day, rest, out);
+    for line in LineReader::new(input) {
+        answer_one(day, line, out);
+    }
 }
 
 /// Answers every line of an input: the replies are added to `out`, in room that its owner has reserved. Where that is
