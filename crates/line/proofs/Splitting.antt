@@ -1,12 +1,13 @@
 -- The parts of a line, one by one.
 use Rattle.std.proofs.Common.{◌≡◌, ℕ, suc, ◌+◌, ◌<◌, ◌≤◌, Bool, true, false, cond, eqb, leb, ◌==◌, List, [], ◌∷◌, length, take, drop, count_by, sym, refl, ap, ◌∙◌, arith, length-drop, le-leb}
+use Rattle.std.proofs.lemmas.List.{drop-drop}
 use Rattle.std.proofs.lemmas.List.Folds.{length-prefix_len}
 use Rattle.std.proofs.lemmas.List.Sums.{sum_by-cons}
 use Rattle.std.proofs.lemmas.Bool.Decides.{nat_tests}
 use Rattle.line.specs.Fields.{parts, placed, fields}
 use Rattle.line.specs.Lines.{differs, before_first, in_front}
 use Rattle.line.specs.Readers.{fields_from}
-use Rattle.line.proofs.Cuts.{take_one_more, drop_one_more, past_piece}
+use Rattle.line.proofs.Cuts.{take_one_more, drop_one_more}
 
 -- the parts after the first: none where no blank is left
 abbrev more_parts : List ℕ → List (List ℕ)
@@ -44,7 +45,7 @@ fields_cut line i le =
     by_rest : (t : Bool) → leb (n + 1) (length rest) ≡ t → placed (i + 1 + length (take n rest) + 1) (more_parts rest) ≡ fields_from line (i + (length (take n rest) + 1))
     by_rest true e =
         let at : i + 1 + length (take n rest) + 1 ≡ i + (length (take n rest) + 1) + 1 = omega arith in
-        let after : drop (n + 1) rest ≡ drop (i + (length (take n rest) + 1)) line = sym (ap (λ m. drop m line) along ∙ past_piece line i n) in
+        let after : drop (n + 1) rest ≡ drop (i + (length (take n rest) + 1)) line = drop-drop (n + 1) i line ∙ ap (λ m. drop m line) (sym along) in
         rw (same, e) (λ k. placed (at k) (parts (after k)))
     by_rest false e = rw (same, e) refl
 

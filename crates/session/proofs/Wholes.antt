@@ -1,14 +1,9 @@
 -- Pieces against the whole, and lines against their calls.
-use Rattle.std.proofs.Common.{◌≡◌, ℕ, ◌+◌, ◌-◌, cond, List, [], ◌∷◌, ◌++◌, length, take, Ok, Err, Result, sym, refl, ap, ◌∙◌, arith}
+use Rattle.std.proofs.Common.{◌≡◌, ℕ, ◌+◌, ◌-◌, List, [], ◌∷◌, ◌++◌, length, take, Ok, Err, Result, sym, refl, ap, ◌∙◌, arith}
 use Rattle.std.proofs.lemmas.List.{append_assoc, append-nil, take_all}
 use Rattle.rulebook.specs.Meaning.{Meaning}
 use Rattle.history.specs.declared.Call.{Call}
-use Rattle.history.specs.declared.Call.TheVariants.{List as Listing, Post, Collar, Clock, Halt, Lift, Ask, Enter, Withdraw}
-use Rattle.history.specs.declared.Answer.{Answer}
-use Rattle.history.specs.declared.Answer.TheVariants.{Listed as Numbered, Done, Lapsed as Counted, Price, Ordered as Taken, Refused as Denied}
-use Rattle.history.specs.History.{accepted}
 use Rattle.day.specs.State.{State}
-use Rattle.day.specs.Calls.{changed}
 use Rattle.day.specs.Following.{answered, left}
 use Rattle.trading.specs.Runs.{all_answered}
 use Rattle.reply.specs.declared.LineFault.{LineFault}
@@ -17,7 +12,7 @@ use Rattle.reply.specs.Replies.{text}
 use Rattle.line.specs.Commands.{said}
 use Rattle.line.specs.Lines.{lines, ended, unended}
 use Rattle.line.proofs.Pieces.{front, none_left}
-use Rattle.session.specs.Talk.{carried_out, replied, reply_by, left_by, printed, left_by_lines, with_call, calls_in, next_text, answers_after, printed_by}
+use Rattle.session.specs.Talk.{replied, reply_by, left_by, printed, left_by_lines, with_call, calls_in, next_text, answers_after, printed_by}
 use Rattle.session.specs.Pieces.{most_read, Standing, read_of, held_with, fed, all_text, all_fed, joined}
 use Rattle.session.specs.Laws.{PiecesAreTheWhole, AnswersArePrinted}
 use Rattle.session.proofs.Lines.{printed_parts, left_parts}
