@@ -1,13 +1,32 @@
 -- The parts of a line, one by one.
 use Rattle.std.proofs.Common.{◌≡◌, ℕ, suc, ◌+◌, ◌<◌, ◌≤◌, Bool, true, false, cond, eqb, leb, ◌==◌, List, [], ◌∷◌, length, take, drop, count_by, sym, refl, ap, ◌∙◌, arith, length-drop, le-leb}
+use Rattle.std.specs.List.{slice_split, onto_first}
 use Rattle.std.proofs.lemmas.List.{drop-drop}
 use Rattle.std.proofs.lemmas.List.Folds.{length-prefix_len}
-use Rattle.std.proofs.lemmas.List.Sums.{sum_by-cons}
+use Rattle.std.proofs.lemmas.List.Recursion.{same_from_clauses}
+use Rattle.std.proofs.lemmas.List.Splits.{length-slice_split}
 use Rattle.std.proofs.lemmas.Bool.Decides.{nat_tests}
 use Rattle.line.specs.Fields.{parts, placed, fields}
 use Rattle.line.specs.Lines.{differs, before_first, in_front}
 use Rattle.line.specs.Readers.{fields_from}
 use Rattle.line.proofs.Cuts.{take_one_more, drop_one_more}
+
+-- the parts are those of a split at each blank
+onto_first_is : (b : ℕ) (pieces : List (List ℕ)) → onto_first b pieces ≡ in_front b pieces
+onto_first_is b [] = refl
+onto_first_is b (piece ∷ pieces) = refl
+
+pub parts_are_split : (line : List ℕ) → parts line ≡ slice_split (λ byte. byte == 32) line
+parts_are_split =
+    same_from_clauses parts (slice_split (λ byte. byte == 32)) (λ b pieces. cond (b == 32) ([] ∷ pieces) (in_front b pieces)) refl (λ b bytes. refl)
+    (λ b bytes. ap (cond (b == 32) ([] ∷ slice_split (λ byte. byte == 32) bytes)) (onto_first_is b (slice_split (λ byte. byte == 32) bytes)))
+
+-- one more than there are blanks
+pub length-parts : (line : List ℕ) → length (parts line) ≡ count_by (λ byte. byte == 32) line + 1
+length-parts line = ap length (parts_are_split line) ∙ length-slice_split (λ byte. byte == 32) line
+
+pub some_part : (line : List ℕ) → 0 < length (parts line)
+some_part line = omega (arith, length-parts line)
 
 -- the parts after the first: none where no blank is left
 abbrev more_parts : List ℕ → List (List ℕ)
@@ -49,25 +68,9 @@ fields_cut line i le =
         rw (same, e) (λ k. placed (at k) (parts (after k)))
     by_rest false e = rw (same, e) refl
 
-pub some_part : (bytes : List ℕ) → 0 < length (parts bytes)
-some_part bytes = omega (arith, ap length (parts_cut bytes))
-
 pub length-placed : (position : ℕ) (pieces : List (List ℕ)) → length (placed position pieces) ≡ length pieces
 length-placed position [] = refl
 length-placed position (piece ∷ pieces) = ap suc (length-placed (position + length piece + 1) pieces)
-
-pub length-in_front : (b : ℕ) (pieces : List (List ℕ)) → 0 < length pieces → length (in_front b pieces) ≡ length pieces
-length-in_front b [] some = absurd (omega arith)
-length-in_front b (piece ∷ pieces) some = refl
-
--- one part more than there are blanks
-pub length-parts : (line : List ℕ) → length (parts line) ≡ count_by (λ byte. byte == 32) line + 1
-length-parts [] = refl
-length-parts (b ∷ line) = by_byte (eqb b 32) refl (length-parts line)
-  where
-    by_byte : (t : Bool) → eqb b 32 ≡ t → length (parts line) ≡ count_by (λ byte. byte == 32) line + 1 → length (parts (b ∷ line)) ≡ count_by (λ byte. byte == 32) (b ∷ line) + 1
-    by_byte true e ih = rw (sum_by-cons, e) (omega (arith, ih))
-    by_byte false e ih = let same = length-in_front b (parts line) (some_part line) in rw (sum_by-cons, e) (omega arith)
 
 pub length-fields : (line : List ℕ) → length (fields line) ≡ count_by (λ byte. byte == 32) line + 1
 length-fields line = length-placed 1 (parts line) ∙ length-parts line
