@@ -41,7 +41,7 @@ impl<R: Rulebook> Session<R> {
     {
         self.hold(piece);
         self.replies.clear();
-        let held = &self.input.as_slice()[self.at..];
+        let held = &self.input[self.at..];
         let left = answer_ended(&mut self.day, held, &mut self.replies).len();
         self.at = self.input.len() - left;
     }
@@ -54,7 +54,7 @@ impl<R: Rulebook> Session<R> {
         ensures law { LawfulOn (R.Rulebook.meaning self.old.day.book) (standing self.old).day (lines (standing self.old).held) (standing self.new).day }
     {
         self.replies.clear();
-        let held = &self.input.as_slice()[self.at..];
+        let held = &self.input[self.at..];
         answer_lines(&mut self.day, held, &mut self.replies);
         self.at = self.input.len();
     }
