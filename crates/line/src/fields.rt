@@ -4,7 +4,6 @@ ghost use Rattle.std.specs.Option.{option_map};
 ghost use Rattle.std.specs.Iterator.{YieldsFirstBy, item_count};
 ghost use Rattle.line.specs.Fields.{fields, a_command, a_letter, a_number};
 ghost use Rattle.line.specs.Firsts.{first, others};
-ghost use Rattle.reply.specs.declared.faults.LineFault.TheVariants.{BadField};
 ghost use Rattle.line.specs.Readers.{fields_left, part_read, field_read};
 
 use super::cutting::before_first;
@@ -20,8 +19,8 @@ pub(crate) struct Part<'a> {
 
 impl Part<'_> {
     /// Told where the part is not what it should be.
-    pub(crate) fn fault(self) -> LineFault
-        ensures { result ≡ BadField (part_read self.entry).1 }
+    pub(crate) fn fault(&self) -> LineFault
+        ensures { result ≡ LineFault.BadField self.now.position }
     {
         LineFault::BadField(self.position as u64)
     }
