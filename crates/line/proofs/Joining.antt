@@ -1,29 +1,22 @@
 -- The parts of a line are the line: joined by blanks, without blanks, each at its position.
-use Rattle.std.proofs.Common.{◌≡◌, ℕ, zero, suc, ◌+◌, ◌-◌, ◌<◌, ◌≤◌, Bool, true, false, eqb, List, [], ◌∷◌, ◌++◌, map, length, get_or, take, drop, sym, refl, ap, ◌∙◌, append_assoc, add-one, arith, eqb-true}
+use Rattle.std.proofs.Common.{◌≡◌, ℕ, zero, suc, ◌+◌, ◌-◌, ◌<◌, ◌≤◌, Bool, true, false, eqb, List, [], ◌∷◌, ◌++◌, map, length, get_or, take, drop, sym, refl, ap, ◌∙◌, append_assoc, add-one, arith}
 use borrow.Author.Tests.{eqb-false}
+use Rattle.std.specs.List.{join_with_byte}
 use Rattle.std.proofs.lemmas.List.{take_all, take_at, drop-drop, drop_at, length_push}
+use Rattle.std.proofs.lemmas.List.Splits.{join_with_byte-slice_split}
 use Rattle.line.specs.Fields.{Placed, parts, placed, fields}
 use Rattle.line.specs.Laws.{bytes, position, field, with_blanks}
 use Rattle.line.specs.Lines.{in_front}
-use Rattle.line.proofs.Splitting.{some_part, length-placed}
+use Rattle.line.proofs.Splitting.{parts_are_split, some_part, length-placed}
 
--- a blank in front begins a new piece, any other byte goes to the first
-after_blank : (pieces : List (List ℕ)) → 0 < length pieces → with_blanks ([] ∷ pieces) ≡ 32 ∷ with_blanks pieces
-after_blank [] some = absurd (omega arith)
-after_blank (piece ∷ pieces) some = refl
-
-byte_in_front : (b : ℕ) (pieces : List (List ℕ)) → 0 < length pieces → with_blanks (in_front b pieces) ≡ b ∷ with_blanks pieces
-byte_in_front b [] some = absurd (omega arith)
-byte_in_front b (piece ∷ []) some = refl
-byte_in_front b (piece ∷ next ∷ more) some = refl
+-- joined by blanks, as std joins by a byte
+joined_is : (pieces : List (List ℕ)) → with_blanks pieces ≡ join_with_byte 32 pieces
+joined_is [] = refl
+joined_is (piece ∷ []) = refl
+joined_is (piece ∷ next ∷ more) = ap (λ l. piece ++ 32 ∷ l) (joined_is (next ∷ more))
 
 parts_joined : (line : List ℕ) → with_blanks (parts line) ≡ line
-parts_joined [] = refl
-parts_joined (b ∷ line) = by_byte (eqb b 32) refl (parts_joined line)
-  where
-    by_byte : (t : Bool) → eqb b 32 ≡ t → with_blanks (parts line) ≡ line → with_blanks (parts (b ∷ line)) ≡ b ∷ line
-    by_byte true e ih = rw e (after_blank (parts line) (some_part line) ∙ (λ k. sym (eqb-true b 32 e) k ∷ ih k))
-    by_byte false e ih = rw e (byte_in_front b (parts line) (some_part line) ∙ ap (λ l. b ∷ l) ih)
+parts_joined line = joined_is (parts line) ∙ ap (join_with_byte 32) (parts_are_split line) ∙ join_with_byte-slice_split 32 line
 
 -- no piece holds a blank
 abbrev Clear : List (List ℕ) → Type 0

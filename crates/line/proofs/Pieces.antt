@@ -1,17 +1,6 @@
 -- A text that comes in pieces.
-use Rattle.std.proofs.Common.{◌≡◌, ℕ, ◌-◌, min, Bool, true, false, eqb, List, [], ◌∷◌, ◌++◌, length, take, drop, sym, refl, ap, ◌∙◌, arith}
-use native.Mathlib.Decide.{dec_lt}
-use Rattle.std.proofs.lemmas.List.{drop_all, take_rest}
+use Rattle.std.proofs.Common.{◌≡◌, ℕ, Bool, true, false, eqb, List, [], ◌∷◌, ◌++◌, refl, ap, ◌∙◌, arith}
 use Rattle.line.specs.Lines.{lines, in_front, ended, unended}
-
--- the bytes from a place on that is not past the end, as the code cuts them
-pub from_start : (input : List ℕ) (i m : ℕ) → m ≡ min i (length input) → take (length input - m) (drop m input) ≡ drop i input
-from_start input i m is =
-    take_rest input m
-    ∙ elim (dec_lt i (length input)) [
-      | yes lt ↦ ap (λ k. drop k input) (omega arith)
-      | no ge ↦ drop_all m input (omega arith) ∙ sym (drop_all i input (omega arith))
-    ]
 
 pub all_left : (bytes : List ℕ) → ended bytes ≡ [] → unended bytes ≡ bytes
 all_left [] none = refl

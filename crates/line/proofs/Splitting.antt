@@ -1,14 +1,32 @@
 -- The parts of a line, one by one.
-use Rattle.std.proofs.Common.{◌≡◌, ℕ, suc, ◌+◌, ◌-◌, ◌<◌, ◌≤◌, Bool, true, false, cond, eqb, leb, List, [], ◌∷◌, length, get_or, take, drop, Some, sym, refl, ap, ◌∙◌, arith, length-drop, eq-eqb, ne_eqb, le-leb}
-use borrow.Author.Tests.{lt-leb}
-use Rattle.std.proofs.lemmas.List.{length-take-le, drop_more, drop_all}
-use Rattle.std.proofs.lemmas.List.Sums.{prefix_len-le-length}
+use Rattle.std.proofs.Common.{◌≡◌, ℕ, suc, ◌+◌, ◌<◌, ◌≤◌, Bool, true, false, cond, eqb, leb, ◌==◌, List, [], ◌∷◌, length, take, drop, count_by, sym, refl, ap, ◌∙◌, arith, length-drop, le-leb}
+use Rattle.std.specs.List.{slice_split, onto_first}
+use Rattle.std.proofs.lemmas.List.{drop-drop}
+use Rattle.std.proofs.lemmas.List.Folds.{length-prefix_len}
+use Rattle.std.proofs.lemmas.List.Recursion.{same_from_clauses}
+use Rattle.std.proofs.lemmas.List.Splits.{length-slice_split}
 use Rattle.std.proofs.lemmas.Bool.Decides.{nat_tests}
-use Rattle.line.specs.Fields.{parts, placed}
-use Rattle.line.specs.Firsts.{first, others}
+use Rattle.line.specs.Fields.{parts, placed, fields}
 use Rattle.line.specs.Lines.{differs, before_first, in_front}
 use Rattle.line.specs.Readers.{fields_from}
-use Rattle.line.proofs.Cuts.{take_one_more, drop_one_more, cut_at, cut_off, cut_long, past_cut}
+use Rattle.line.proofs.Cuts.{take_one_more, drop_one_more}
+
+-- the parts are those of a split at each blank
+onto_first_is : (b : ℕ) (pieces : List (List ℕ)) → onto_first b pieces ≡ in_front b pieces
+onto_first_is b [] = refl
+onto_first_is b (piece ∷ pieces) = refl
+
+pub parts_are_split : (line : List ℕ) → parts line ≡ slice_split (λ byte. byte == 32) line
+parts_are_split =
+    same_from_clauses parts (slice_split (λ byte. byte == 32)) (λ b pieces. cond (b == 32) ([] ∷ pieces) (in_front b pieces)) refl (λ b bytes. refl)
+    (λ b bytes. ap (cond (b == 32) ([] ∷ slice_split (λ byte. byte == 32) bytes)) (onto_first_is b (slice_split (λ byte. byte == 32) bytes)))
+
+-- one more than there are blanks
+pub length-parts : (line : List ℕ) → length (parts line) ≡ count_by (λ byte. byte == 32) line + 1
+length-parts line = ap length (parts_are_split line) ∙ length-slice_split (λ byte. byte == 32) line
+
+pub some_part : (line : List ℕ) → 0 < length (parts line)
+some_part line = omega (arith, length-parts line)
 
 -- the parts after the first: none where no blank is left
 abbrev more_parts : List ℕ → List (List ℕ)
@@ -25,66 +43,34 @@ parts_cut (b ∷ bytes) = by_byte (eqb b 32) refl (parts_cut bytes)
         let same : leb (n + 1) (length bytes) ≡ leb (1 + n + 1) (suc (length bytes)) = grind (arith, nat_tests) in
         rw e (ap (in_front b) ih ∙ (λ k. sym (take_one_more b bytes n) k ∷ cond (same k) (parts (sym (drop_one_more b bytes n) k)) []))
 
-module _ (line : List ℕ) (i n : ℕ) (le : i ≤ length line) (is : n ≡ before_first 32 (take (length line - i) (drop i line))) where
-  abbrev m : ℕ
-  m = before_first 32 (drop i line)
+-- the fields from a place on that is not past the line's end: a part, and those after it
+pub fields_cut : (line : List ℕ) (i : ℕ) → i ≤ length line
+    → fields_from line i ≡ (take (before_first 32 (drop i line)) (drop i line), i + 1) ∷ fields_from line (i + (length (take (before_first 32 (drop i line)) (drop i line)) + 1))
+fields_cut line i le =
+    rw (le-leb i (length line) le) (ap (placed (i + 1)) (parts_cut rest) ∙ ap (λ fields. (take n rest, i + 1) ∷ fields) (by_rest (leb (n + 1) (length rest)) refl))
+  where
+    rest : List ℕ
+    rest = drop i line
 
-  cut : fields_from line i ≡ placed (i + 1) (take m (drop i line) ∷ more_parts (drop i line))
-  cut = rw (le-leb i (length line) le) (ap (placed (i + 1)) (parts_cut (drop i line)))
+    n : ℕ
+    n = before_first 32 rest
 
-  abbrev cut_out : List ℕ
-  cut_out = take (n - 0) (take (length line - i) (drop i line))
+    along : i + (length (take n rest) + 1) ≡ i + (n + 1)
+    along = let long = length-prefix_len (differs 32) rest in omega arith
 
-  pub part_is : Some (cut_out, i + 1) ≡ first (fields_from line i)
-  part_is = (λ k. Some (cut_off 32 line i n is k, i + 1)) ∙ sym (ap first cut)
+    same : leb (i + (length (take n rest) + 1)) (length line) ≡ leb (n + 1) (length rest)
+    same = let a = along in let l = length-drop i line in grind (arith, nat_tests)
 
-  pub part_long : length cut_out ≡ n
-  part_long = cut_long 32 line i n is
-
-  pub past_part : fields_from line (i + (length cut_out + 1)) ≡ others (fields_from line i)
-  past_part = ap (fields_from line) along ∙ by_rest (leb (m + 1) (length (drop i line))) refl ∙ sym (ap others cut)
-    where
-      along : i + (length cut_out + 1) ≡ i + n + 1
-      along = omega (arith, part_long)
-
-      long : m ≤ length (drop i line)
-      long = prefix_len-le-length (differs 32) (drop i line)
-
-      same : leb (i + n + 1) (length line) ≡ leb (m + 1) (length (drop i line))
-      same = let l = length-drop i line in let o = long in let c = cut_at 32 line i n is in grind (arith, nat_tests)
-
-      by_rest : (t : Bool) → leb (m + 1) (length (drop i line)) ≡ t → fields_from line (i + n + 1) ≡ placed (i + 1 + length (take m (drop i line)) + 1) (more_parts (drop i line))
-      by_rest true e =
-          let taken = length-take-le m (drop i line) long in
-          let at : i + n + 1 + 1 ≡ i + 1 + length (take m (drop i line)) + 1 = omega (arith, taken, cut_at 32 line i n is) in
-          rw (same, e) (λ k. placed (at k) (parts (past_cut 32 line i n is k)))
-      by_rest false e = rw (same, e) refl
-
--- past the line's end
-pub none_left : (line : List ℕ) (i : ℕ) → length line < i → fields_from line i ≡ []
-none_left line i past = rw (lt-leb i (length line) past)
-
-pub some_part : (bytes : List ℕ) → 0 < length (parts bytes)
-some_part bytes = omega (arith, ap length (parts_cut bytes))
+    by_rest : (t : Bool) → leb (n + 1) (length rest) ≡ t → placed (i + 1 + length (take n rest) + 1) (more_parts rest) ≡ fields_from line (i + (length (take n rest) + 1))
+    by_rest true e =
+        let at : i + 1 + length (take n rest) + 1 ≡ i + (length (take n rest) + 1) + 1 = omega arith in
+        let after : drop (n + 1) rest ≡ drop (i + (length (take n rest) + 1)) line = drop-drop (n + 1) i line ∙ ap (λ m. drop m line) (sym along) in
+        rw (same, e) (λ k. placed (at k) (parts (after k)))
+    by_rest false e = rw (same, e) refl
 
 pub length-placed : (position : ℕ) (pieces : List (List ℕ)) → length (placed position pieces) ≡ length pieces
 length-placed position [] = refl
 length-placed position (piece ∷ pieces) = ap suc (length-placed (position + length piece + 1) pieces)
 
-pub length-in_front : (b : ℕ) (pieces : List (List ℕ)) → 0 < length pieces → length (in_front b pieces) ≡ length pieces
-length-in_front b [] some = absurd (omega arith)
-length-in_front b (piece ∷ pieces) some = refl
-
--- the count of the parts, one byte on
-module _ (line : List ℕ) (i : ℕ) (lt : i < length line) where
-  at_byte : length (parts (drop i line)) ≡ length (parts (get_or line i 0 ∷ drop (i + 1) line))
-  at_byte = ap (λ bytes. length (parts bytes)) (drop_more line i 0 lt)
-
-  pub count_blank : get_or line i 0 ≡ 32 → length (parts (drop i line)) ≡ suc (length (parts (drop (i + 1) line)))
-  count_blank is = at_byte ∙ rw (eq-eqb (get_or line i 0) 32 is)
-
-  pub count_other : (get_or line i 0 ≡ 32 → ⊥) → length (parts (drop i line)) ≡ length (parts (drop (i + 1) line))
-  count_other isnt = at_byte ∙ rw (ne_eqb (get_or line i 0) 32 isnt) (length-in_front (get_or line i 0) (parts (drop (i + 1) line)) (some_part (drop (i + 1) line)))
-
-pub count_end : (line : List ℕ) (i n : ℕ) → length line ≤ i → n + length (parts (drop i line)) ≡ length (parts line) → n + 1 ≡ length (placed 1 (parts line))
-count_end line i n end h = omega (arith, h, ap (λ bytes. length (parts bytes)) (drop_all i line end), length-placed 1 (parts line))
+pub length-fields : (line : List ℕ) → length (fields line) ≡ count_by (λ byte. byte == 32) line + 1
+length-fields line = length-placed 1 (parts line) ∙ length-parts line

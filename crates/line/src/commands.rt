@@ -33,36 +33,32 @@ fn take_word(fields: &mut FieldReader) -> Result<Word, LineFault>
     ensures value { result ≡ word_first (fields_left fields.old) }
     ensures rest { fields_left fields.new ≡ others (fields_left fields.old) }
 {
-    match fields.next_command() {
-        Some(Field::Command(bytes, _)) => Word::read(bytes).ok_or(LineFault::NotACommand),
-        _ => Err(LineFault::NotACommand),
-    }
+    let Some(Field::Command(part)) = fields.next_command() else {
+        return Err(LineFault::NotACommand);
+    };
+    Word::read(part.bytes).ok_or(LineFault::NotACommand)
 }
 
 fn take_number(fields: &mut FieldReader) -> Result<u64, LineFault>
     ensures value { result ≡ number_first (fields_left fields.old) }
     ensures rest { fields_left fields.new ≡ others (fields_left fields.old) }
 {
-    match fields.next_number() {
-        Some(Field::Number(bytes, position)) => number(bytes).ok_or(LineFault::BadField(
-            position as u64,
-        )),
-        _ => Err(LineFault::WrongNumberOfFields),
-    }
+    let Some(Field::Number(part)) = fields.next_number() else {
+        return Err(LineFault::WrongNumberOfFields);
+    };
+    number(part.bytes).ok_or(part.fault())
 }
 
 fn take_letter(fields: &mut FieldReader) -> Result<char, LineFault>
     ensures value { result ≡ letter_first (fields_left fields.old) }
     ensures rest { fields_left fields.new ≡ others (fields_left fields.old) }
 {
-    match fields.next_letter() {
-        Some(Field::Letter(bytes, position)) => {
-            if bytes.len() != 1 {
-                return Err(LineFault::BadField(position as u64));
-            }
-            Ok(bytes[0] as char)
-        }
-        _ => Err(LineFault::WrongNumberOfFields),
+    let Some(Field::Letter(part)) = fields.next_letter() else {
+        return Err(LineFault::WrongNumberOfFields);
+    };
+    match part.bytes {
+        [letter] => Ok(char::from(*letter)),
+        _ => Err(part.fault()),
     }
 }
 

@@ -7,10 +7,8 @@ pub(crate) fn before_first(bytes: &[u8], stop: u8) -> usize
     ensures value { result ≡ before_first stop bytes.now }
     ensures within { result ≤ length bytes.now }
 {
-    for (i, byte) in bytes.iter().enumerate() {
-        if *byte == stop {
-            return i;
-        }
-    }
-    bytes.len()
+    bytes
+        .iter()
+        .position(|byte| *byte == stop)
+        .unwrap_or(bytes.len())
 }

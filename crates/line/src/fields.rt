@@ -1,19 +1,37 @@
 //! The fields of a line, one by one, each with its position. Nothing is copied.
-ghost use Rattle.std.specs.Prelude.{◌≡◌, ◌+◌, ◌≤◌, [], length, IfSome, MatchOption};
+ghost use Rattle.std.specs.Prelude.{◌≡◌, length};
 ghost use Rattle.std.specs.Option.{option_map};
+ghost use Rattle.std.specs.Iterator.{YieldsFirstBy, item_count};
 ghost use Rattle.line.specs.Fields.{fields, a_command, a_letter, a_number};
 ghost use Rattle.line.specs.Firsts.{first, others};
-ghost use Rattle.line.specs.Readers.{fields_from, fields_left, part_read, field_read};
+ghost use Rattle.line.specs.Readers.{fields_left, part_read, field_read};
 
 use super::cutting::before_first;
+use reply::LineFault;
 
-/// A part of a line between blanks: its bytes, and its position, which is the place in the line,
-/// from 1, where its first byte stands or, if it is empty, would stand.
-#[derive(Clone, Copy)]
+/// A part of a line between blanks.
+#[derive(Clone, Copy, PartialEq, Eq, Debug)]
+pub(crate) struct Part<'a> {
+    pub(crate) bytes: &'a [u8],
+    /// The place in the line, from 1, where its first byte stands or, if it is empty, would stand.
+    pub(crate) position: usize,
+}
+
+impl Part<'_> {
+    /// Told where the part is not what it should be.
+    pub(crate) fn fault(&self) -> LineFault
+        ensures { result ≡ LineFault.BadField self.now.position }
+    {
+        LineFault::BadField(self.position as u64)
+    }
+}
+
+/// A part, and what it is read as.
+#[derive(Clone, Copy, PartialEq, Eq, Debug)]
 pub(crate) enum Field<'a> {
-    Command(&'a [u8], usize),
-    Letter(&'a [u8], usize),
-    Number(&'a [u8], usize),
+    Command(Part<'a>),
+    Letter(Part<'a>),
+    Number(Part<'a>),
 }
 
 #[derive(Drop)]
@@ -36,8 +54,7 @@ impl<'a> FieldReader<'a> {
         ensures field { option_map field_read result ≡ option_map a_command (first (fields_left self.old)) }
         ensures rest { fields_left self.new ≡ others (fields_left self.old) }
     {
-        let (bytes, position) = self.next_part()?;
-        Some(Field::Command(bytes, position))
+        self.next().map(Field::Command)
     }
 
     /// The next field as a letter.
@@ -45,8 +62,7 @@ impl<'a> FieldReader<'a> {
         ensures field { option_map field_read result ≡ option_map a_letter (first (fields_left self.old)) }
         ensures rest { fields_left self.new ≡ others (fields_left self.old) }
     {
-        let (bytes, position) = self.next_part()?;
-        Some(Field::Letter(bytes, position))
+        self.next().map(Field::Letter)
     }
 
     /// The next field as a number.
@@ -54,53 +70,29 @@ impl<'a> FieldReader<'a> {
         ensures field { option_map field_read result ≡ option_map a_number (first (fields_left self.old)) }
         ensures rest { fields_left self.new ≡ others (fields_left self.old) }
     {
-        let (bytes, position) = self.next_part()?;
-        Some(Field::Number(bytes, position))
-    }
-
-    /// The next field's bytes and position, or `None` where no field is left.
-    fn next_part(&mut self) -> Option<(&'a [u8], usize)>
-        ensures part { option_map part_read result ≡ first (fields_left self.old) }
-        ensures rest { fields_left self.new ≡ others (fields_left self.old) }
-    {
-        let bytes = part_at(self.line, self.at)?;
-        let position = self.at + 1;
-        self.at += bytes.len() + 1;
-        Some((bytes, position))
+        self.next().map(Field::Number)
     }
 }
 
-/// How many fields a line has.
+impl<'a> Iterator for FieldReader<'a> {
+    type Item = Part<'a>;
+
+    ghost next_gives = { YieldsFirstBy part_read fields_left };
+
+    ghost remaining = { item_count fields_left };
+
+    fn next(&mut self) -> Option<Part<'a>> {
+        let rest = self.line.get(self.at..)?;
+        let bytes = &rest[..before_first(rest, b' ')];
+        let position = self.at + 1;
+        self.at += bytes.len() + 1;
+        Some(Part { bytes, position })
+    }
+}
+
+/// How many fields a line has: one more than blanks.
 pub(crate) fn field_count(line: &[u8]) -> usize
     ensures { result ≡ length (fields line.now) }
 {
-    count_blanks(line) + 1
-}
-
-/// The part that begins at `start`, or `None` where the line ends before it.
-fn part_at<'a>(line: &'a [u8], start: usize) -> Option<&'a [u8]>
-    ensures part { option_map (λ part. (part.now, start + 1)) result ≡ first (fields_from line.now start) }
-    ensures rest { MatchOption result (fields_from line.now start ≡ []) (λ part. fields_from line.now (start + (length part.now + 1)) ≡ others (fields_from line.now start)) }
-    ensures within { IfSome result (λ part. start + length part.now ≤ length line.now) }
-{
-    if start > line.len() {
-        return None;
-    }
-    let rest = &line[start..];
-    let n = before_first(rest, b' ');
-    Some(&rest[0..n])
-}
-
-/// How many blanks a line has: one fewer than fields.
-fn count_blanks(line: &[u8]) -> usize
-    ensures value { result + 1 ≡ length (fields line.now) }
-    ensures within { result ≤ length line.now }
-{
-    let mut n = 0;
-    for byte in line {
-        if *byte == b' ' {
-            n += 1;
-        }
-    }
-    n
+    line.iter().filter(|byte| **byte == b' ').count() + 1
 }

@@ -1,8 +1,9 @@
 //! The lines of a lent input, one by one. Nothing is copied.
-ghost use Rattle.std.specs.Prelude.{◌≡◌, ◌+◌, ◌<◌, ◌≤◌, [], length, drop, IfSome, MatchOption};
+ghost use Rattle.std.specs.Prelude.{◌≡◌};
 ghost use Rattle.std.specs.Option.{option_map};
+ghost use Rattle.std.specs.Iterator.{YieldsFirstBy, item_count};
 ghost use Rattle.line.specs.Firsts.{first, others};
-ghost use Rattle.line.specs.Lines.{lines, past_first, ended, unended};
+ghost use Rattle.line.specs.Lines.{past_first, ended, unended};
 ghost use Rattle.line.specs.Readers.{lines_left, unread};
 
 use super::cutting::before_first;
@@ -28,7 +29,11 @@ impl<'a> LineReader<'a> {
         ensures rest { lines_left self.new ≡ others (lines_left self.old) }
         ensures after { unread self.new ≡ past_first (unread self.old) }
     {
-        let line = line_at(self.input, self.at)?;
+        let rest = self.rest();
+        if rest.is_empty() {
+            return None;
+        }
+        let line = &rest[..before_first(rest, b'\n')];
         self.at += line.len() + 1;
         Some(line)
     }
@@ -40,56 +45,32 @@ impl<'a> LineReader<'a> {
         ensures rest { ended (unread self.new) ≡ others (ended (unread self.old)) }
         ensures kept { unended (unread self.new) ≡ unended (unread self.old) }
     {
-        let line = ended_at(self.input, self.at)?;
-        self.at += line.len() + 1;
-        Some(line)
+        let rest = self.rest();
+        let n = before_first(rest, b'\n');
+        if n == rest.len() {
+            return None;
+        }
+        self.at += n + 1;
+        Some(&rest[..n])
     }
 
     /// What is left to be read.
     pub fn rest(&self) -> &'a [u8]
         ensures { result.now ≡ unread self.now }
     {
-        from_place(self.input, self.at)
+        let start = self.at.min(self.input.len());
+        &self.input[start..]
     }
 }
 
-/// The line that begins at `start`, or `None` where the input ends before it.
-fn line_at<'a>(input: &'a [u8], start: usize) -> Option<&'a [u8]>
-    ensures line { option_map (λ x. x.now) result ≡ first (lines (drop start input.now)) }
-    ensures rest { MatchOption result (lines (drop start input.now) ≡ []) (λ line. lines (drop (start + (length line.now + 1)) input.now) ≡ others (lines (drop start input.now))) }
-    ensures within { IfSome result (λ line. start + length line.now ≤ length input.now) }
-    ensures after { MatchOption result (drop start input.now ≡ []) (λ line. drop (start + (length line.now + 1)) input.now ≡ past_first (drop start input.now)) }
-{
-    if start >= input.len() {
-        return None;
-    }
-    let rest = &input[start..];
-    let n = before_first(rest, b'\n');
-    Some(&rest[0..n])
-}
+impl<'a> Iterator for LineReader<'a> {
+    type Item = &'a [u8];
 
-/// The line that begins at `start` and that a byte 10 ends, or `None`.
-fn ended_at<'a>(input: &'a [u8], start: usize) -> Option<&'a [u8]>
-    ensures line { option_map (λ x. x.now) result ≡ first (ended (drop start input.now)) }
-    ensures rest { MatchOption result (ended (drop start input.now) ≡ []) (λ line. ended (drop (start + length line.now + 1) input.now) ≡ others (ended (drop start input.now))) }
-    ensures kept { IfSome result (λ line. unended (drop (start + length line.now + 1) input.now) ≡ unended (drop start input.now)) }
-    ensures within { IfSome result (λ line. start + length line.now < length input.now) }
-{
-    if start >= input.len() {
-        return None;
-    }
-    let rest = &input[start..];
-    let n = before_first(rest, b'\n');
-    if n >= rest.len() {
-        return None;
-    }
-    Some(&rest[0..n])
-}
+    ghost next_gives = { YieldsFirstBy (λ line. line.now) lines_left };
 
-/// The bytes from `start` on, none where the input ends before it.
-fn from_place<'a>(input: &'a [u8], start: usize) -> &'a [u8]
-    ensures { result.now ≡ drop start input.now }
-{
-    let start = start.min(input.len());
-    &input[start..]
+    ghost remaining = { item_count lines_left };
+
+    fn next(&mut self) -> Option<&'a [u8]> {
+        self.next_line()
+    }
 }

@@ -5,7 +5,7 @@ ghost use Rattle.line.specs.Words.{word_in, fields_of};
 use history::Side;
 
 /// What a line asks for.
-#[derive(Clone, Copy)]
+#[derive(Clone, Copy, PartialEq, Eq, Debug)]
 pub(crate) enum Word {
     List,
     Post,
@@ -23,10 +23,10 @@ impl Word {
     pub(crate) fn read(bytes: &[u8]) -> Option<Word>
         ensures { result ≡ word_in bytes.now }
     {
-        if bytes.len() != 1 {
+        let [letter] = bytes else {
             return None;
-        }
-        match bytes[0] as char {
+        };
+        match char::from(*letter) {
             'L' => Some(Word::List),
             'P' => Some(Word::Post),
             'K' => Some(Word::Collar),

@@ -1,19 +1,8 @@
 -- What is held of an input that comes in pieces.
-use Rattle.std.proofs.Common.{◌≡◌, ℕ, zero, suc, ◌+◌, ◌-◌, ◌*◌, ◌<◌, ◌≤◌, min, Bool, true, false, eqb, ◌⊎◌, List, [], ◌∷◌, ◌++◌, length, take, drop, sym, refl, ap, ◌∙◌, inl, inr, arith}
-use Rattle.std.proofs.lemmas.List.{append_assoc, append-nil, take_all, take_rest, drop-drop, drop-append-le, length-take, length-drop}
-use Rattle.std.proofs.lemmas.Bool.{cases_lt}
-use Rattle.line.specs.Lines.{lines, ended, unended}
+use Rattle.std.proofs.Common.{◌≡◌, ℕ, zero, suc, ◌+◌, ◌-◌, ◌≤◌, Bool, true, false, eqb, List, [], ◌∷◌, ◌++◌, length, take, drop, sym, refl, ap, ◌∙◌, arith}
+use Rattle.std.proofs.lemmas.List.{take_all, take_rest, drop-drop, length-drop}
+use Rattle.line.specs.Lines.{ended, unended}
 use Rattle.session.proofs.Lines.{lines_short, both_parts}
-
--- the part of a piece that is still read, as the code cuts it
-pub read_part : (piece : List ℕ) (room count : ℕ) → count ≡ min (length piece) room → take count piece ≡ take room piece
-read_part piece room count is = by_order (cases_lt room (length piece))
-  where
-    by_order : (room < length piece) ⊎ (length piece ≤ room) → take count piece ≡ take room piece
-    by_order (inl less) = let e : count ≡ room = omega arith in ap (λ (n : ℕ). take n piece) e
-    by_order (inr all) =
-        let e : count ≡ length piece = omega arith in
-        ap (λ (n : ℕ). take n piece) e ∙ take_all (length piece) piece (omega arith) ∙ sym (take_all room piece all)
 
 pub ended_short : (bytes : List ℕ) → length (ended bytes) ≤ length bytes
 ended_short bytes = let short = lines_short bytes in let parts = both_parts bytes in omega arith

@@ -1,5 +1,5 @@
 -- Lines in two parts: the ended ones, and what follows them.
-use Rattle.std.proofs.Common.{◌≡◌, ℕ, suc, ◌+◌, ◌<◌, ◌≤◌, Bool, true, false, eqb, List, [], ◌∷◌, ◌++◌, length, Ok, Err, Result, sym, refl, ap, ◌∙◌, subst, arith}
+use Rattle.std.proofs.Common.{◌≡◌, ℕ, suc, ◌+◌, ◌≤◌, Bool, true, false, eqb, List, [], ◌∷◌, ◌++◌, length, Ok, Err, Result, sym, refl, ap, ◌∙◌, subst, arith}
 use Rattle.std.proofs.lemmas.List.{append_assoc, append-nil, length-append}
 use Rattle.rulebook.specs.Meaning.{Meaning}
 use Rattle.history.specs.declared.Call.{Call}
@@ -10,32 +10,10 @@ use Rattle.trading.specs.Runs.{all_answered, all_left, Upheld}
 use Rattle.trading.proofs.Upholding.{all_upheld}
 use Rattle.reply.specs.declared.LineFault.{LineFault}
 use Rattle.line.specs.Commands.{said}
-use Rattle.line.specs.Lines.{lines, in_front, to_first, ended, unended}
+use Rattle.line.specs.Lines.{lines, in_front, ended, unended}
 use Rattle.reply.specs.Replies.{text}
 use Rattle.line.proofs.Pieces.{front}
 use Rattle.session.specs.Talk.{reply, left_by, left_by_line, printed, left_by_lines, with_call, calls_in, LawfulOn}
-
-empty_first : (b : ℕ) (ls : List (List ℕ)) → to_first b ls ≡ [] → ls ≡ []
-empty_first b [] is = refl
-empty_first b (l ∷ ls) is = absurd (let z : ◌≡◌ {A = ℕ} 0 1 = cc in omega arith)
-
--- bytes without an ended line are one line
-pub sole_line : (bytes : List ℕ) → ended bytes ≡ [] → 0 < length bytes → lines bytes ≡ bytes ∷ []
-sole_line [] none some = absurd (omega arith)
-sole_line (b ∷ bytes) none some = by_byte (eqb b 10) refl bytes refl (λ h. sole_line bytes h)
-  where
-    by_byte : (t : Bool) → eqb b 10 ≡ t → (more : List ℕ) → bytes ≡ more → (ended bytes ≡ [] → 0 < length bytes → lines bytes ≡ bytes ∷ [])
-        → lines (b ∷ bytes) ≡ (b ∷ bytes) ∷ []
-    by_byte true e more is ih = absurd (let h = rw e at none in let z : ◌≡◌ {A = ℕ} 0 1 = cc in omega arith)
-    by_byte false e [] is ih = rw e (rw is refl)
-    by_byte false e (c ∷ more) is ih =
-        let h : to_first b (ended bytes) ≡ [] = rw e at none in
-        let long : length bytes ≡ suc (length more) = ap (λ (l : List ℕ). length l) is in
-        rw e (ap (in_front b) (ih (empty_first b (ended bytes) h) (omega (arith, long))))
-
-pub no_line : (bytes : List ℕ) → length bytes ≡ 0 → lines bytes ≡ []
-no_line [] none = refl
-no_line (b ∷ bytes) none = absurd (omega arith)
 
 in_front_short : (b : ℕ) (ls : List (List ℕ)) → length (in_front b ls) ≤ suc (length ls)
 in_front_short b [] = omega arith

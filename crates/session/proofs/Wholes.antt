@@ -1,14 +1,9 @@
--- Pieces against the whole, and refused lines.
-use Rattle.std.proofs.Common.{◌≡◌, ℕ, ◌+◌, ◌-◌, cond, List, [], ◌∷◌, ◌++◌, length, take, Ok, Err, Result, sym, refl, ap, ◌∙◌, arith}
+-- Pieces against the whole, and lines against their calls.
+use Rattle.std.proofs.Common.{◌≡◌, ℕ, ◌+◌, ◌-◌, List, [], ◌∷◌, ◌++◌, length, take, Ok, Err, Result, sym, refl, ap, ◌∙◌, arith}
 use Rattle.std.proofs.lemmas.List.{append_assoc, append-nil, take_all}
 use Rattle.rulebook.specs.Meaning.{Meaning}
 use Rattle.history.specs.declared.Call.{Call}
-use Rattle.history.specs.declared.Call.TheVariants.{List as Listing, Post, Collar, Clock, Halt, Lift, Ask, Enter, Withdraw}
-use Rattle.history.specs.declared.Answer.{Answer}
-use Rattle.history.specs.declared.Answer.TheVariants.{Listed as Numbered, Done, Lapsed as Counted, Price, Ordered as Taken, Refused as Denied}
-use Rattle.history.specs.History.{accepted}
 use Rattle.day.specs.State.{State}
-use Rattle.day.specs.Calls.{changed}
 use Rattle.day.specs.Following.{answered, left}
 use Rattle.trading.specs.Runs.{all_answered}
 use Rattle.reply.specs.declared.LineFault.{LineFault}
@@ -17,9 +12,9 @@ use Rattle.reply.specs.Replies.{text}
 use Rattle.line.specs.Commands.{said}
 use Rattle.line.specs.Lines.{lines, ended, unended}
 use Rattle.line.proofs.Pieces.{front, none_left}
-use Rattle.session.specs.Talk.{carried_out, replied, reply_by, left_by, printed, left_by_lines, with_call, calls_in, next_text, answers_after, printed_by}
+use Rattle.session.specs.Talk.{replied, reply_by, left_by, printed, left_by_lines, with_call, calls_in, next_text, answers_after, printed_by}
 use Rattle.session.specs.Pieces.{most_read, Standing, read_of, held_with, fed, all_text, all_fed, joined}
-use Rattle.session.specs.Laws.{PiecesAreTheWhole, AnswersArePrinted, RefusedLinesChangeNothing}
+use Rattle.session.specs.Laws.{PiecesAreTheWhole, AnswersArePrinted}
 use Rattle.session.proofs.Lines.{printed_parts, left_parts}
 use Rattle.session.proofs.Holding.{read_on}
 
@@ -72,30 +67,3 @@ answers_are_printed rules s (line ∷ ls) = by_said (said line) (λ t. answers_a
         ≡ next_text r (all_answered rules s (with_call r (calls_in ls))) ++ printed_by ls (answers_after r (all_answered rules s (with_call r (calls_in ls))))
     by_said (Ok call) rest = ap (λ (bytes : List ℕ). text (replied call (answered rules s call)) ++ bytes) (rest (left rules s call))
     by_said (Err fault) rest = ap (λ (bytes : List ℕ). text (Refused fault) ++ bytes) (rest s)
-
--- a call that is carried out is not replied as a refusal
-never : (call : Call) (fault : LineFault) → carried_out call ≡ Refused fault → ⊥
-never (Listing product) fault is = let z : ◌≡◌ {A = ℕ} 0 1 = cc in omega arith
-never (Post contract letter value) fault is = let z : ◌≡◌ {A = ℕ} 0 1 = cc in omega arith
-never (Collar contract low high) fault is = let z : ◌≡◌ {A = ℕ} 0 1 = cc in omega arith
-never (Clock minute) fault is = let z : ◌≡◌ {A = ℕ} 0 1 = cc in omega arith
-never (Halt contract) fault is = let z : ◌≡◌ {A = ℕ} 0 1 = cc in omega arith
-never (Lift contract) fault is = let z : ◌≡◌ {A = ℕ} 0 1 = cc in omega arith
-never (Ask contract n d) fault is = let z : ◌≡◌ {A = ℕ} 0 1 = cc in omega arith
-never (Enter entry) fault is = let z : ◌≡◌ {A = ℕ} 0 1 = cc in omega arith
-never (Withdraw order participant) fault is = let z : ◌≡◌ {A = ℕ} 0 1 = cc in omega arith
-
-same_after : (s next : State) (call : Call) (answer : Answer) (fault : LineFault) → replied call answer ≡ Refused fault → cond (accepted answer) next s ≡ s
-same_after s next call (Numbered contract) fault is = absurd (let z : ◌≡◌ {A = ℕ} 0 1 = cc in omega arith)
-same_after s next call Done fault is = absurd (never call fault is)
-same_after s next call (Counted orders) fault is = absurd (let z : ◌≡◌ {A = ℕ} 0 1 = cc in omega arith)
-same_after s next call (Price price distance) fault is = absurd (let z : ◌≡◌ {A = ℕ} 0 1 = cc in omega arith)
-same_after s next call (Taken order partner) fault is = absurd (let z : ◌≡◌ {A = ℕ} 0 1 = cc in omega arith)
-same_after s next call (Denied denial) fault is = refl
-
-pub refused_lines_change_nothing : RefusedLinesChangeNothing
-refused_lines_change_nothing rules s line fault is = by_said (said line) is
-  where
-    by_said : (r : Result Call LineFault) → reply_by rules s r ≡ Refused fault → left_by rules s r ≡ s
-    by_said (Ok call) is = same_after s (changed rules s call) call (answered rules s call) fault is
-    by_said (Err other) is = refl

@@ -1,5 +1,5 @@
 -- An input that comes in pieces: the lines that are ended are answered, the bytes after them are held.
-use Rattle.std.specs.Prelude.{◌≡◌, ℕ, ◌+◌, ◌-◌, List, [], ◌∷◌, ◌++◌, length, take, drop, vec_items}
+use Rattle.std.specs.Prelude.{ℕ, ◌+◌, ◌-◌, List, [], ◌∷◌, ◌++◌, length, take, drop, vec_items}
 use Rattle.price.specs.declared.grid.Grid
 use Rattle.rulebook.specs.declared.rulebook.Rulebook
 use Rattle.rulebook.specs.Meaning.{Meaning}

@@ -29,8 +29,20 @@ pub fn answer_line<R: Rulebook>(
     if LONGEST_REPLY > out.capacity() - out.len() {
         return Err(TooLittleRoom);
     }
-    let reply = reply_to(day, line);
-    reply.write_to(out)
+    answer_one(day, line, out);
+    Ok(())
+}
+
+/// Answers a line, for whose reply there is room.
+fn answer_one<R: Rulebook>(day: &mut Day<R>, line: &[u8], out: &mut Vec<u8>)
+    requires { vec_len out.old + 44 ≤ vec_capacity out.old }
+    ensures bytes { out.new.items ≡ out.old.items ++ text (reply (R.Rulebook.meaning day.old.book) (view day.old) line.now) }
+    ensures within { vec_len out.new ≤ vec_len out.old + 44 }
+    ensures capacity { vec_capacity out.new ≡ vec_capacity out.old }
+    ensures after { view day.new ≡ left_by_line (R.Rulebook.meaning day.old.book) (view day.old) line.now }
+    ensures book { day.new.book ≡ day.old.book }
+{
+    reply_to(day, line).write_to(out).unwrap();
 }
 
 /// Answers the lines of an input that a byte 10 ends, for whose replies there is room, and hands back what follows them.
@@ -49,22 +61,9 @@ pub(crate) fn answer_ended<'a, R: Rulebook>(
 {
     let mut reader = LineReader::new(input);
     while let Some(line) = reader.next_ended() {
-        let _ = answer_line(day, line, out);
+        answer_one(day, line, out);
     }
     reader.rest()
-}
-
-/// Answers what follows the last ended line, which is one line or none.
-pub(crate) fn answer_last<R: Rulebook>(day: &mut Day<R>, rest: &[u8], out: &mut Vec<u8>)
-    requires { (ended rest.now ≡ []) × (44 * length (lines rest.now) + vec_len out.old ≤ vec_capacity out.old) }
-    ensures bytes { out.new.items ≡ out.old.items ++ printed (R.Rulebook.meaning day.old.book) (view day.old) (lines rest.now) }
-    ensures capacity { vec_capacity out.new ≡ vec_capacity out.old }
-    ensures after { view day.new ≡ left_by_lines (R.Rulebook.meaning day.old.book) (view day.old) (lines rest.now) }
-    ensures book { day.new.book ≡ day.old.book }
-{
-    if !rest.is_empty() {
-        let _ = answer_line(day, rest, out);
-    }
 }
 
 /// Answers every line of an input, for whose replies there is room.
@@ -75,8 +74,9 @@ pub(crate) fn answer_lines<R: Rulebook>(day: &mut Day<R>, input: &[u8], out: &mu
     ensures after { view day.new ≡ left_by_lines (R.Rulebook.meaning day.old.book) (view day.old) (lines input.now) }
     ensures book { day.new.book ≡ day.old.book }
 {
-    let rest = answer_ended(day, input, out);
-    answer_last(day, rest, out);
+    for line in LineReader::new(input) {
+        answer_one(day, line, out);
+    }
 }
 
 /// Answers every line of an input: the replies are added to `out`, in room that its owner has reserved. Where that is
@@ -104,10 +104,5 @@ pub fn answer_all<R: Rulebook>(
 fn line_count(input: &[u8]) -> usize
     ensures { result ≡ length (lines input.now) }
 {
-    let mut reader = LineReader::new(input);
-    let mut count = 0;
-    while let Some(_line) = reader.next_line() {
-        count += 1;
-    }
-    count
+    LineReader::new(input).count()
 }

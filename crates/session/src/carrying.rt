@@ -66,8 +66,5 @@ pub(crate) fn reply_to<R: Rulebook>(day: &mut Day<R>, line: &[u8]) -> Reply
     ensures after { view day.new ≡ left_by_line (R.Rulebook.meaning day.old.book) (view day.old) line.now }
     ensures book { day.new.book ≡ day.old.book }
 {
-    match carry_line_out(day, line) {
-        Ok(reply) => reply,
-        Err(fault) => Reply::Refused(fault),
-    }
+    carry_line_out(day, line).unwrap_or_else(Reply::Refused)
 }

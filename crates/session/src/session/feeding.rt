@@ -6,15 +6,11 @@ ghost use Rattle.line.specs.Lines.{lines, ended};
 ghost use Rattle.session.specs.Talk.{LawfulOn};
 ghost use Rattle.session.specs.Pieces.{standing, beginning, read_of, held_with, fed, fed_text, closed, closed_text};
 
-use super::Session;
+use super::{INPUT_LIMIT, REPLIES_LIMIT, Session};
 use crate::answering::{answer_ended, answer_lines};
 use day::Day;
-use reply::LONGEST_REPLY;
 use rulebook::Rulebook;
 use std::alloc::{AllocError, Global};
-
-/// How many bytes of an input are read.
-pub const INPUT_LIMIT: usize = 65_536;
 
 impl<R: Rulebook + Drop> Session<R> {
     /// A session on a fresh day under `book`, or want of memory.
@@ -25,7 +21,7 @@ impl<R: Rulebook + Drop> Session<R> {
     {
         let day = Day::open(heap, book)?;
         let input = Vec::with_capacity(heap, INPUT_LIMIT)?;
-        let replies = Vec::with_capacity(heap, INPUT_LIMIT * LONGEST_REPLY)?;
+        let replies = Vec::with_capacity(heap, REPLIES_LIMIT)?;
         Ok(Session {
             day,
             input,
@@ -45,7 +41,7 @@ impl<R: Rulebook> Session<R> {
     {
         self.hold(piece);
         self.replies.clear();
-        let held = &self.input.as_slice()[self.at..];
+        let held = &self.input[self.at..];
         let left = answer_ended(&mut self.day, held, &mut self.replies).len();
         self.at = self.input.len() - left;
     }
@@ -58,7 +54,7 @@ impl<R: Rulebook> Session<R> {
         ensures law { LawfulOn (R.Rulebook.meaning self.old.day.book) (standing self.old).day (lines (standing self.old).held) (standing self.new).day }
     {
         self.replies.clear();
-        let held = &self.input.as_slice()[self.at..];
+        let held = &self.input[self.at..];
         answer_lines(&mut self.day, held, &mut self.replies);
         self.at = self.input.len();
     }
@@ -77,6 +73,6 @@ impl<R: Rulebook> Session<R> {
         ensures at { self.new.at ≡ self.old.at }
     {
         let count = piece.len().min(INPUT_LIMIT - self.input.len());
-        let _ = self.input.extend_from_slice(&piece[..count]);
+        self.input.extend_from_slice(&piece[..count]).unwrap();
     }
 }

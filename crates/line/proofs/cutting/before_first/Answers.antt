@@ -1,12 +1,18 @@
-use Rattle.std.proofs.Common.{arith}
-use Rattle.line.proofs.Cuts.{found, passed, ended}
+use Rattle.std.proofs.Common.{◌≡◌, ℕ, ◌+◌, ◌≢◌, List, ◌∷◌, sym, refl, ◌∙◌, arith, eq-eqb, ne_eqb, tests, rules}
+use Rattle.std.proofs.lemmas.Iterator.{YieldsList-from_slice, IsFirst-from_position, index_from_first}
+use Rattle.line.specs.Lines.{before_first}
 use Rattle.line.proofs.cutting.before_first.Goals as goal
 
-pub returns-then-byte-stop : goal.returns-then-byte-stop
-returns-then-byte-stop c = record { value = found _ _ _ (omega arith) c.if-byte-stop.true c.loop-i.invariant.0; within = omega arith }
+-- one byte more in front
+module _ (stop byte : ℕ) (bytes : List ℕ) where
+  stopped : byte ≡ stop → before_first stop (byte ∷ bytes) ≡ 0
+  stopped is = rw (eq-eqb byte stop is)
 
-pub loop-i-preserved : goal.loop-i-preserved
-loop-i-preserved c = (passed _ _ _ (omega arith) c.if-byte-stop.false c.loop-i.invariant.0, omega arith)
+  passed : byte ≢ stop → before_first stop (byte ∷ bytes) ≡ before_first stop bytes + 1
+  passed isnt = rw (ne_eqb byte stop isnt) (omega arith)
 
-pub returns : goal.returns
-returns c = record { value = ended _ _ _ (omega arith) (omega arith) c.loop-i.invariant.0; within = omega arith }
+pub returns-clause-value : goal.returns-clause-value
+returns-clause-value c =
+    let stop = c.args.stop in
+    let found = IsFirst-from_position _ _ c.position.result (λ b. b ≡ stop) (λ b. b ≢ stop) c.position.ensures.ran (YieldsList-from_slice c.args.bytes.now cc) (λ x q k. search (rules, tests)) (λ x q k. search (rules, tests)) in
+    c.unwrap_or.ensures ∙ sym (index_from_first (before_first stop) (λ b. b ≡ stop) (λ b. b ≢ stop) refl (stopped stop) (passed stop) c.args.bytes.now c.position.result found)

@@ -1,11 +1,9 @@
-use Rattle.std.proofs.Common.{arith}
-use Rattle.line.specs.Readers.{lines_left}
+use Rattle.std.proofs.Common.{List, ℕ, length, ap, inl, arith}
+use Rattle.line.specs.Lines.{lines}
 use Rattle.session.proofs.Lines.{lines_short}
-use Rattle.session.proofs.Turns.{one_fewer}
 use Rattle.session.proofs.answering.line_count.Goals as goal
 
-pub overflow_add-count : goal.overflow_add-count
-overflow_add-count c =
-    let short = lines_short c.args.input.now in
-    let fewer = one_fewer c.in-Some._line.now (lines_left c.loop-line.reader) c.in-Some.ensures.line in
-    omega (arith, c.loop-line.invariant, short, fewer)
+pub count-requires-clause-fits : goal.count-requires-clause-fits
+count-requires-clause-fits c =
+    let same = ap (λ (bytes : List ℕ). length (lines bytes)) c.new.ensures in
+    inl (omega (arith, same, lines_short c.args.input.now))
