@@ -34,30 +34,38 @@ use Rattle.day.specs.Calls.{marked, is_due, clocked, with_marked, paired, with_o
 use Rattle.day.proofs.Numbering.{inside}
 use Rattle.day.proofs.Places.{numbered-push, numbered-set, numbered-past, numbered-map}
 
+-- contracts that are as many as said, each with the product, the figures, the collar and the halt that are said of it
+pub record AreContracts (contracts : List Terms) (many : ℕ) (products : ℕ → ℕ) (sheets : ℕ → Sheet) (collars : ℕ → Option (ℕ × ℕ)) (halts : ℕ → Bool) : Type 0 where
+  pub listed : length contracts ≡ many
+  pub product : (c : ℕ) → (numbered (just_listed 0) contracts c).product ≡ products c
+  pub figures : (c : ℕ) → (numbered (just_listed 0) contracts c).figures ≡ sheets c
+  pub collar : (c : ℕ) → (numbered (just_listed 0) contracts c).collar ≡ collars c
+  pub halted : (c : ℕ) → (numbered (just_listed 0) contracts c).halted ≡ halts c
+
+-- the same of orders
+pub record AreOrders (list : List Order) (many : ℕ) (entries : ℕ → Entry) (untils : ℕ → ℕ) (waiting : ℕ → Bool) : Type 0 where
+  pub count : length list ≡ many
+  pub entry : (k : ℕ) → (numbered no_order list k).entry ≡ entries k
+  pub until : (k : ℕ) → (numbered no_order list k).until ≡ untils k
+  pub waits : (k : ℕ) → is_waiting (numbered no_order list k).status ≡ waiting k
+
 pub record Follows (rules : Meaning) (s : State) (h : History) : Type 0 where
   pub minute : s.minute ≡ minute h
-  pub listed : length s.contracts ≡ listed h
-  pub product : (c : ℕ) → (contract_at s c).product ≡ product h c
-  pub figures : (c : ℕ) → (contract_at s c).figures ≡ figures h c
-  pub collar : (c : ℕ) → (contract_at s c).collar ≡ collar h c
-  pub halted : (c : ℕ) → (contract_at s c).halted ≡ halted h c
-  pub orders : length s.orders ≡ orders h
-  pub entry : (k : ℕ) → (order_at s k).entry ≡ (order h k).entry
-  pub until : (k : ℕ) → (order_at s k).until ≡ ends rules h k
-  pub waits : (k : ℕ) → is_waiting (order_at s k).status ≡ waits rules h k
+  pub contracts : AreContracts s.contracts (listed h) (λ c. product h c) (λ c. figures h c) (λ c. collar h c) (λ c. halted h c)
+  pub orders : AreOrders s.orders (orders h) (λ k. (order h k).entry) (λ k. ends rules h k) (λ k. waits rules h k)
 
 pub same_board : (rules : Meaning) (s : State) (h : History) → Follows rules s h → board_of s ≡ board rules h
 same_board rules s h f = λ i. record {
   minute = f.minute i;
-  listed = f.listed i;
-  product = λ c. f.product c i;
-  figures = λ c. f.figures c i;
-  collar = λ c. f.collar c i;
-  halted = λ c. f.halted c i;
-  orders = f.orders i;
-  entry = λ k. f.entry k i;
-  until = λ k. f.until k i;
-  waits = λ k. f.waits k i;
+  listed = f.contracts.listed i;
+  product = λ c. f.contracts.product c i;
+  figures = λ c. f.contracts.figures c i;
+  collar = λ c. f.contracts.collar c i;
+  halted = λ c. f.contracts.halted c i;
+  orders = f.orders.count i;
+  entry = λ k. f.orders.entry k i;
+  until = λ k. f.orders.until k i;
+  waits = λ k. f.orders.waits k i;
 }
 
 -- a part of what a test chooses
@@ -88,15 +96,8 @@ module _ (rules : Meaning) (s : State) (h : History) (lawful : Lawful rules h) (
   unfolding waits
   refused_keeps call fault = record {
     minute = f.minute;
-    listed = f.listed;
-    product = f.product;
-    figures = f.figures;
-    collar = f.collar;
-    halted = f.halted;
+    contracts = f.contracts;
     orders = f.orders;
-    entry = f.entry;
-    until = f.until;
-    waits = f.waits;
   }
 
   -- the terms of a contract when one more was listed
@@ -118,17 +119,16 @@ module _ (rules : Meaning) (s : State) (h : History) (lawful : Lawful rules h) (
     unfolding waits
     list_keeps contract = record {
       minute = f.minute;
-      listed = length-append s.contracts (just_listed number ∷ []) ∙ omega (arith, f.listed);
-      product = λ c. ap (λ (t : Terms). t.product) (at_grown c)
-          ∙ of_cond (λ (t : Terms). t.product) (eqb c (suc (length s.contracts))) (just_listed number) (contract_at s c)
-          ∙ (λ i. cond (eqb c (suc (f.listed i))) number (f.product c i));
-      figures = λ c. as_new (λ (t : Terms). t.figures) c refl ∙ f.figures c;
-      collar = λ c. as_new (λ (t : Terms). t.collar) c refl ∙ f.collar c;
-      halted = λ c. as_new (λ (t : Terms). t.halted) c refl ∙ f.halted c;
+      contracts = record {
+        listed = length-append s.contracts (just_listed number ∷ []) ∙ omega (arith, f.contracts.listed);
+        product = λ c. ap (λ (t : Terms). t.product) (at_grown c)
+            ∙ of_cond (λ (t : Terms). t.product) (eqb c (suc (length s.contracts))) (just_listed number) (contract_at s c)
+            ∙ (λ i. cond (eqb c (suc (f.contracts.listed i))) number (f.contracts.product c i));
+        figures = λ c. as_new (λ (t : Terms). t.figures) c refl ∙ f.contracts.figures c;
+        collar = λ c. as_new (λ (t : Terms). t.collar) c refl ∙ f.contracts.collar c;
+        halted = λ c. as_new (λ (t : Terms). t.halted) c refl ∙ f.contracts.halted c;
+      };
       orders = f.orders;
-      entry = f.entry;
-      until = f.until;
-      waits = f.waits;
     }
 
   -- the terms of a contract when those of one were changed
@@ -139,7 +139,7 @@ module _ (rules : Meaning) (s : State) (h : History) (lawful : Lawful rules h) (
     at_altered : (c : ℕ) → contract_at altered c ≡ cond (eqb c contract) terms (contract_at s c)
     at_altered c =
         let (least, most) = inside (listed h) contract there in
-        numbered-set (just_listed 0) s.contracts terms contract c least (omega (arith, f.listed))
+        numbered-set (just_listed 0) s.contracts terms contract c least (omega (arith, f.contracts.listed))
 
     as_before : {B : Type 0} (part : Terms → B) (c : ℕ) → part terms ≡ part (contract_at s contract) → part (contract_at altered c) ≡ part (contract_at s c)
     as_before part c kept =
@@ -159,7 +159,7 @@ module _ (rules : Meaning) (s : State) (h : History) (lawful : Lawful rules h) (
         by_test false here = same c
 
     length-kept : length altered.contracts ≡ listed h
-    length-kept = length-set s.contracts (contract - 1) terms ∙ f.listed
+    length-kept = length-set s.contracts (contract - 1) terms ∙ f.contracts.listed
 
   post_keeps : (contract letter value : ℕ) → outside (listed h) contract ≡ false → Kept (Post contract letter value) Done
   unfolding waits
@@ -167,15 +167,14 @@ module _ (rules : Meaning) (s : State) (h : History) (lawful : Lawful rules h) (
       let terms = with_figures (contract_at s contract) (letter_named letter) value in
       record {
         minute = f.minute;
-        listed = length-kept contract there terms;
-        product = λ c. as_before contract there terms (λ (t : Terms). t.product) c refl ∙ f.product c;
-        figures = λ c. as_changed contract there terms (λ (t : Terms). t.figures) (λ (sheet : Sheet). posted_under (letter_named letter) sheet value) (figures h) c refl f.figures;
-        collar = λ c. as_before contract there terms (λ (t : Terms). t.collar) c refl ∙ f.collar c;
-        halted = λ c. as_before contract there terms (λ (t : Terms). t.halted) c refl ∙ f.halted c;
+        contracts = record {
+          listed = length-kept contract there terms;
+          product = λ c. as_before contract there terms (λ (t : Terms). t.product) c refl ∙ f.contracts.product c;
+          figures = λ c. as_changed contract there terms (λ (t : Terms). t.figures) (λ (sheet : Sheet). posted_under (letter_named letter) sheet value) (figures h) c refl f.contracts.figures;
+          collar = λ c. as_before contract there terms (λ (t : Terms). t.collar) c refl ∙ f.contracts.collar c;
+          halted = λ c. as_before contract there terms (λ (t : Terms). t.halted) c refl ∙ f.contracts.halted c;
+        };
         orders = f.orders;
-        entry = f.entry;
-        until = f.until;
-        waits = f.waits;
       }
 
   collar_keeps : (contract low high : ℕ) → outside (listed h) contract ≡ false → Kept (Collar contract low high) Done
@@ -184,15 +183,14 @@ module _ (rules : Meaning) (s : State) (h : History) (lawful : Lawful rules h) (
       let terms = with_collar (contract_at s contract) low high in
       record {
         minute = f.minute;
-        listed = length-kept contract there terms;
-        product = λ c. as_before contract there terms (λ (t : Terms). t.product) c refl ∙ f.product c;
-        figures = λ c. as_before contract there terms (λ (t : Terms). t.figures) c refl ∙ f.figures c;
-        collar = λ c. as_changed contract there terms (λ (t : Terms). t.collar) (λ _. collar_of low high) (collar h) c refl f.collar;
-        halted = λ c. as_before contract there terms (λ (t : Terms). t.halted) c refl ∙ f.halted c;
+        contracts = record {
+          listed = length-kept contract there terms;
+          product = λ c. as_before contract there terms (λ (t : Terms). t.product) c refl ∙ f.contracts.product c;
+          figures = λ c. as_before contract there terms (λ (t : Terms). t.figures) c refl ∙ f.contracts.figures c;
+          collar = λ c. as_changed contract there terms (λ (t : Terms). t.collar) (λ _. collar_of low high) (collar h) c refl f.contracts.collar;
+          halted = λ c. as_before contract there terms (λ (t : Terms). t.halted) c refl ∙ f.contracts.halted c;
+        };
         orders = f.orders;
-        entry = f.entry;
-        until = f.until;
-        waits = f.waits;
       }
 
   halt_keeps : (contract : ℕ) → outside (listed h) contract ≡ false → Kept (Halt contract) Done
@@ -201,15 +199,14 @@ module _ (rules : Meaning) (s : State) (h : History) (lawful : Lawful rules h) (
       let terms = with_halt (contract_at s contract) true in
       record {
         minute = f.minute;
-        listed = length-kept contract there terms;
-        product = λ c. as_before contract there terms (λ (t : Terms). t.product) c refl ∙ f.product c;
-        figures = λ c. as_before contract there terms (λ (t : Terms). t.figures) c refl ∙ f.figures c;
-        collar = λ c. as_before contract there terms (λ (t : Terms). t.collar) c refl ∙ f.collar c;
-        halted = λ c. as_changed contract there terms (λ (t : Terms). t.halted) (λ _. true) (halted h) c refl f.halted;
+        contracts = record {
+          listed = length-kept contract there terms;
+          product = λ c. as_before contract there terms (λ (t : Terms). t.product) c refl ∙ f.contracts.product c;
+          figures = λ c. as_before contract there terms (λ (t : Terms). t.figures) c refl ∙ f.contracts.figures c;
+          collar = λ c. as_before contract there terms (λ (t : Terms). t.collar) c refl ∙ f.contracts.collar c;
+          halted = λ c. as_changed contract there terms (λ (t : Terms). t.halted) (λ _. true) (halted h) c refl f.contracts.halted;
+        };
         orders = f.orders;
-        entry = f.entry;
-        until = f.until;
-        waits = f.waits;
       }
 
   lift_keeps : (contract : ℕ) → outside (listed h) contract ≡ false → Kept (Lift contract) Done
@@ -218,30 +215,22 @@ module _ (rules : Meaning) (s : State) (h : History) (lawful : Lawful rules h) (
       let terms = with_halt (contract_at s contract) false in
       record {
         minute = f.minute;
-        listed = length-kept contract there terms;
-        product = λ c. as_before contract there terms (λ (t : Terms). t.product) c refl ∙ f.product c;
-        figures = λ c. as_before contract there terms (λ (t : Terms). t.figures) c refl ∙ f.figures c;
-        collar = λ c. as_before contract there terms (λ (t : Terms). t.collar) c refl ∙ f.collar c;
-        halted = λ c. as_changed contract there terms (λ (t : Terms). t.halted) (λ _. false) (halted h) c refl f.halted;
+        contracts = record {
+          listed = length-kept contract there terms;
+          product = λ c. as_before contract there terms (λ (t : Terms). t.product) c refl ∙ f.contracts.product c;
+          figures = λ c. as_before contract there terms (λ (t : Terms). t.figures) c refl ∙ f.contracts.figures c;
+          collar = λ c. as_before contract there terms (λ (t : Terms). t.collar) c refl ∙ f.contracts.collar c;
+          halted = λ c. as_changed contract there terms (λ (t : Terms). t.halted) (λ _. false) (halted h) c refl f.contracts.halted;
+        };
         orders = f.orders;
-        entry = f.entry;
-        until = f.until;
-        waits = f.waits;
       }
 
   ask_keeps : (contract n d price : ℕ) (distance : ℤ) → Kept (Ask contract n d) (Price price distance)
   unfolding waits
   ask_keeps contract n d price distance = record {
     minute = f.minute;
-    listed = f.listed;
-    product = f.product;
-    figures = f.figures;
-    collar = f.collar;
-    halted = f.halted;
+    contracts = f.contracts;
     orders = f.orders;
-    entry = f.entry;
-    until = f.until;
-    waits = f.waits;
   }
 
   -- the orders when the clock comes to a minute
@@ -273,16 +262,14 @@ module _ (rules : Meaning) (s : State) (h : History) (lawful : Lawful rules h) (
     clock_keeps : (count : ℕ) → minute h ≤ to → Kept (Clock to) (Lapsed count)
     clock_keeps count later = record {
       minute = refl;
-      listed = f.listed;
-      product = f.product;
-      figures = f.figures;
-      collar = f.collar;
-      halted = f.halted;
-      orders = length-map s.orders (clocked to) ∙ f.orders;
-      entry = λ k. ap (λ (o : Order). o.entry) (at_clock k) ∙ kept_by_clock (λ (o : Order). o.entry) (order_at s k) refl ∙ f.entry k;
-      until = λ k. ap (λ (o : Order). o.until) (at_clock k) ∙ kept_by_clock (λ (o : Order). o.until) (order_at s k) refl ∙ f.until k;
-      waits = λ k. ap (λ (o : Order). is_waiting o.status) (at_clock k) ∙ waits-by_clock (order_at s k)
-          ∙ (λ i. f.waits k i && ltb to (f.until k i)) ∙ sym (waits-clock rules h to count k later);
+      contracts = f.contracts;
+      orders = record {
+        count = length-map s.orders (clocked to) ∙ f.orders.count;
+        entry = λ k. ap (λ (o : Order). o.entry) (at_clock k) ∙ kept_by_clock (λ (o : Order). o.entry) (order_at s k) refl ∙ f.orders.entry k;
+        until = λ k. ap (λ (o : Order). o.until) (at_clock k) ∙ kept_by_clock (λ (o : Order). o.until) (order_at s k) refl ∙ f.orders.until k;
+        waits = λ k. ap (λ (o : Order). is_waiting o.status) (at_clock k) ∙ waits-by_clock (order_at s k)
+            ∙ (λ i. f.orders.waits k i && ltb to (f.orders.until k i)) ∙ sym (waits-clock rules h to count k later);
+      };
     }
 
   -- the orders when one was marked
@@ -290,7 +277,7 @@ module _ (rules : Meaning) (s : State) (h : History) (lawful : Lawful rules h) (
     at_marked : (k : ℕ) → order_at (with_marked s number status) k ≡ cond (eqb k number) (marked (order_at s number) status) (order_at s k)
     at_marked k =
         let (least, most) = inside (orders h) number there in
-        numbered-set no_order s.orders (marked (order_at s number) status) number k least (omega (arith, f.orders))
+        numbered-set no_order s.orders (marked (order_at s number) status) number k least (omega (arith, f.orders.count))
 
     kept_by_mark : {B : Type 0} (part : Order → B) (k : ℕ) → part (marked (order_at s number) status) ≡ part (order_at s number)
         → part (order_at (with_marked s number status) k) ≡ part (order_at s k)
@@ -309,23 +296,21 @@ module _ (rules : Meaning) (s : State) (h : History) (lawful : Lawful rules h) (
     waits-by_mark done k =
         ap (λ (o : Order). is_waiting o.status) (at_marked k)
         ∙ of_cond (λ (o : Order). is_waiting o.status) (eqb k number) (marked (order_at s number) status) (order_at s k)
-        ∙ (λ i. cond (eqb k number) (done i) (f.waits k i)) ∙ off (eqb k number) (waits rules h k)
+        ∙ (λ i. cond (eqb k number) (done i) (f.orders.waits k i)) ∙ off (eqb k number) (waits rules h k)
 
     length_marked : length (with_marked s number status).orders ≡ orders h
-    length_marked = length-set s.orders (number - 1) (marked (order_at s number) status) ∙ f.orders
+    length_marked = length-set s.orders (number - 1) (marked (order_at s number) status) ∙ f.orders.count
 
   withdraw_keeps : (number participant : ℕ) → outside (orders h) number ≡ false → Kept (Withdraw number participant) Done
   withdraw_keeps number participant there = record {
     minute = f.minute;
-    listed = f.listed;
-    product = f.product;
-    figures = f.figures;
-    collar = f.collar;
-    halted = f.halted;
-    orders = length_marked number there Withdrawn;
-    entry = λ k. kept_by_mark number there Withdrawn (λ (o : Order). o.entry) k refl ∙ f.entry k;
-    until = λ k. kept_by_mark number there Withdrawn (λ (o : Order). o.until) k refl ∙ f.until k;
-    waits = λ k. waits-by_mark number there Withdrawn refl k ∙ sym (waits-withdraw rules h number participant k);
+    contracts = f.contracts;
+    orders = record {
+      count = length_marked number there Withdrawn;
+      entry = λ k. kept_by_mark number there Withdrawn (λ (o : Order). o.entry) k refl ∙ f.orders.entry k;
+      until = λ k. kept_by_mark number there Withdrawn (λ (o : Order). o.until) k refl ∙ f.orders.until k;
+      waits = λ k. waits-by_mark number there Withdrawn refl k ∙ sym (waits-withdraw rules h number participant k);
+    };
   }
 
   and_not_zero : (k : ℕ) → (waits rules h k && not (eqb k 0)) ≡ waits rules h k
@@ -373,17 +358,15 @@ module _ (rules : Meaning) (s : State) (h : History) (lawful : Lawful rules h) (
         → Follows rules joined later
     joined_keeps entries untils before new = record {
       minute = f.minute;
-      listed = f.listed;
-      product = f.product;
-      figures = f.figures;
-      collar = f.collar;
-      halted = f.halted;
-      orders = length-append list (newest ∷ []) ∙ omega (arith, long);
-      entry = λ k. part_joined (λ (o : Order). o.entry) k ∙ (λ i. cond (eqb k (suc (orders h))) entry (entries k i))
-          ∙ sym (of_cond (λ (c : Came). c.entry) (eqb k (suc (orders h))) came (order h k));
-      until = λ k. part_joined (λ (o : Order). o.until) k ∙ (λ i. cond (eqb k (suc (orders h))) (hours_end rules h entry) (untils k i))
-          ∙ sym (of_cond (λ (c : Came). hours_end rules c.before c.entry) (eqb k (suc (orders h))) came (order h k));
-      waits = waits-joined before new;
+      contracts = f.contracts;
+      orders = record {
+        count = length-append list (newest ∷ []) ∙ omega (arith, long);
+        entry = λ k. part_joined (λ (o : Order). o.entry) k ∙ (λ i. cond (eqb k (suc (orders h))) entry (entries k i))
+            ∙ sym (of_cond (λ (c : Came). c.entry) (eqb k (suc (orders h))) came (order h k));
+        until = λ k. part_joined (λ (o : Order). o.until) k ∙ (λ i. cond (eqb k (suc (orders h))) (hours_end rules h entry) (untils k i))
+            ∙ sym (of_cond (λ (c : Came). hours_end rules c.before c.entry) (eqb k (suc (orders h))) came (order h k));
+        waits = waits-joined before new;
+      };
     }
 
   in_time : (hours : Result HoursClass RuleFault) (now : ℕ) → is_some (closing_in hours now) ≡ true → now < unwrap_or (closing_in hours now) 0
@@ -399,15 +382,15 @@ module _ (rules : Meaning) (s : State) (h : History) (lawful : Lawful rules h) (
         → Follows rules (paired s p entry (hours_end rules h entry)) (after h (Enter entry) (Ordered (suc (orders h)) p))
     entered_by p trades (inl zero) =
         subst (λ (q : ℕ). Follows rules (paired s q entry (hours_end rules h entry)) (after h (Enter entry) (Ordered (suc (orders h)) q))) (sym zero)
-        (joined_keeps entry 0 Waiting s.orders f.orders (omega arith) f.entry f.until (λ k. f.waits k ∙ sym (and_not_zero k))
+        (joined_keeps entry 0 Waiting s.orders f.orders.count (omega arith) f.orders.entry f.orders.until (λ k. f.orders.waits k ∙ sym (and_not_zero k))
         (λ k is. sym (waits-new rules h entry k is (unnamed rules h lawful k (omega arith)).free (unnamed rules h lawful k (omega arith)).kept
         (in_time (hours_of rules (product h entry.contract)) (minute h) trades))))
     entered_by p trades (inr (least, most)) =
         let there : outside (orders h) p ≡ false = or_from (eqb p 0) _ (ne_eqb p 0 (λ is. omega arith)) (le-ltb (orders h) p most) in
         subst (λ (t : State). Follows rules t (after h (Enter entry) (Ordered (suc (orders h)) p))) (sym (cond-false (eqb p 0) _ _ (ne_eqb p 0 (λ is. omega arith))))
         (joined_keeps entry p Traded (with_marked s p Traded).orders (length_marked p there Traded) most
-        (λ k. kept_by_mark p there Traded (λ (o : Order). o.entry) k refl ∙ f.entry k)
-        (λ k. kept_by_mark p there Traded (λ (o : Order). o.until) k refl ∙ f.until k)
+        (λ k. kept_by_mark p there Traded (λ (o : Order). o.entry) k refl ∙ f.orders.entry k)
+        (λ k. kept_by_mark p there Traded (λ (o : Order). o.until) k refl ∙ f.orders.until k)
         (waits-by_mark p there Traded refl)
         (λ k is. sym (waits-not rules h entry p k least is)))
 
