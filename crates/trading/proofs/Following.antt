@@ -1,7 +1,8 @@
 -- The stored day says the board that the history says, and every call keeps it so.
 use Rattle.std.proofs.Common.{◌≡◌, ℕ, suc, ◌-◌, ◌<◌, ◌≤◌, Bool, true, false, cond, not, ◌&&◌, eqb, ltb, leb, ◌⊎◌, List, [], ◌∷◌, ◌++◌, length, ℤ, is_some, Some, None, Ok, Err, Option, Result, unwrap_or, sym, refl, ap, ◌∙◌, subst, inl, inr, arith}
 use Rattle.std.proofs.lemmas.List.{length-append, length-set, length-map}
-use Rattle.std.proofs.lemmas.Bool.{cond-true, cond-false, eqb-true, ltb-false, eq-eqb, ne_eqb, lt-ltb, le-ltb, lt-leb, le-leb, or_from, not_from_false, cases_lt, cases_order, and_left, and_parts, and_from, both_ways, not-false, not_from_true}
+use Rattle.std.proofs.lemmas.Bool.{cond-true, cond-false, ltb-false, eq-eqb, ne_eqb, le-ltb, or_from, not_from_false, cases_order, and_left, and_parts, and_from, both_ways, not-false}
+use Rattle.std.proofs.lemmas.Bool.Decides.{nat_tests}
 use Rattle.rulebook.specs.declared.HoursClass.{HoursClass}
 use Rattle.rulebook.specs.declared.RuleFault.{RuleFault}
 use Rattle.rulebook.specs.Sheets.{Sheet}
@@ -110,10 +111,7 @@ module _ (rules : Meaning) (s : State) (h : History) (lawful : Lawful rules h) (
 
     -- what all new contracts have in common
     as_new : {B : Type 0} (part : Terms → B) (c : ℕ) → part (just_listed number) ≡ part (just_listed 0) → part (contract_at grown c) ≡ part (contract_at s c)
-    as_new part c common =
-        ap part (at_grown c) ∙ of_cond part (eqb c (suc (length s.contracts))) (just_listed number) (contract_at s c)
-        ∙ either_way (eqb c (suc (length s.contracts))) (part (just_listed number)) (part (contract_at s c)) (λ is.
-        common ∙ sym (ap part (numbered-past (just_listed 0) s.contracts c (omega (arith, eqb-true c (suc (length s.contracts)) is)))))
+    as_new part c common = grind (arith, nat_tests, common, at_grown c, numbered-past (just_listed 0) s.contracts c)
 
     list_keeps : (contract : ℕ) → Kept (Listing number) (Listed contract)
     unfolding waits
@@ -142,21 +140,13 @@ module _ (rules : Meaning) (s : State) (h : History) (lawful : Lawful rules h) (
         numbered-set (just_listed 0) s.contracts terms contract c least (omega (arith, f.contracts.listed))
 
     as_before : {B : Type 0} (part : Terms → B) (c : ℕ) → part terms ≡ part (contract_at s contract) → part (contract_at altered c) ≡ part (contract_at s c)
-    as_before part c kept =
-        ap part (at_altered c) ∙ of_cond part (eqb c contract) terms (contract_at s c)
-        ∙ either_way (eqb c contract) (part terms) (part (contract_at s c)) (λ is.
-        kept ∙ sym (ap (λ (n : ℕ). part (contract_at s n)) (eqb-true c contract is)))
+    as_before part c kept = grind (arith, nat_tests, kept, at_altered c)
 
     -- the part that was changed
     as_changed : {B : Type 0} (part : Terms → B) (said : B → B) (of_history : ℕ → B) (c : ℕ) → part terms ≡ said (part (contract_at s contract))
         → ((n : ℕ) → part (contract_at s n) ≡ of_history n)
         → part (contract_at altered c) ≡ cond (eqb c contract) (said (of_history c)) (of_history c)
-    as_changed part said of_history c is same =
-        ap part (at_altered c) ∙ of_cond part (eqb c contract) terms (contract_at s c) ∙ by_test (eqb c contract) refl
-      where
-        by_test : (test : Bool) → eqb c contract ≡ test → cond test (part terms) (part (contract_at s c)) ≡ cond test (said (of_history c)) (of_history c)
-        by_test true here = is ∙ ap said (ap (λ (n : ℕ). part (contract_at s n)) (sym (eqb-true c contract here)) ∙ same c)
-        by_test false here = same c
+    as_changed part said of_history c is same = grind (arith, nat_tests, is, same c, at_altered c)
 
     length-kept : length altered.contracts ≡ listed h
     length-kept = length-set s.contracts (contract - 1) terms ∙ f.contracts.listed
@@ -239,19 +229,13 @@ module _ (rules : Meaning) (s : State) (h : History) (lawful : Lawful rules h) (
     at_clock k = numbered-map no_order (clocked to) refl s.orders k
 
     kept_by_clock : {B : Type 0} (part : Order → B) (o : Order) → part (marked o Over) ≡ part o → part (clocked to o) ≡ part o
-    kept_by_clock part o kept = of_cond part (is_due to o) (marked o Over) o ∙ either_way (is_due to o) (part (marked o Over)) (part o) (λ _. kept)
+    kept_by_clock part o kept = grind (arith, kept)
 
     by_clock : (waiting due : Bool) → cond (waiting && due) false waiting ≡ (waiting && not due)
-    by_clock true true = refl
-    by_clock true false = refl
-    by_clock false due = refl
+    by_clock waiting due = grind arith
 
     not_yet : (until : ℕ) → not (leb until to) ≡ ltb to until
-    not_yet until =
-        elim (cases_lt to until) [
-          | inl less ↦ not_from_false _ (lt-leb until to less) ∙ sym (lt-ltb to until less)
-          | inr past ↦ not_from_true _ (le-leb until to past) ∙ sym (le-ltb to until past)
-        ]
+    not_yet until = grind (arith, nat_tests)
 
     waits-by_clock : (o : Order) → is_waiting (clocked to o).status ≡ (is_waiting o.status && ltb to o.until)
     waits-by_clock o =
@@ -281,22 +265,13 @@ module _ (rules : Meaning) (s : State) (h : History) (lawful : Lawful rules h) (
 
     kept_by_mark : {B : Type 0} (part : Order → B) (k : ℕ) → part (marked (order_at s number) status) ≡ part (order_at s number)
         → part (order_at (with_marked s number status) k) ≡ part (order_at s k)
-    kept_by_mark part k kept =
-        ap part (at_marked k) ∙ of_cond part (eqb k number) (marked (order_at s number) status) (order_at s k)
-        ∙ either_way (eqb k number) (part (marked (order_at s number) status)) (part (order_at s k)) (λ is.
-        kept ∙ sym (ap (λ (n : ℕ). part (order_at s n)) (eqb-true k number is)))
+    kept_by_mark part k kept = grind (arith, nat_tests, kept, at_marked k)
 
     off : (test waiting : Bool) → cond test false waiting ≡ (waiting && not test)
-    off true true = refl
-    off true false = refl
-    off false true = refl
-    off false false = refl
+    off test waiting = grind arith
 
     waits-by_mark : is_waiting status ≡ false → (k : ℕ) → is_waiting (order_at (with_marked s number status) k).status ≡ (waits rules h k && not (eqb k number))
-    waits-by_mark done k =
-        ap (λ (o : Order). is_waiting o.status) (at_marked k)
-        ∙ of_cond (λ (o : Order). is_waiting o.status) (eqb k number) (marked (order_at s number) status) (order_at s k)
-        ∙ (λ i. cond (eqb k number) (done i) (f.orders.waits k i)) ∙ off (eqb k number) (waits rules h k)
+    waits-by_mark done k = grind (arith, nat_tests, done, f.orders.waits k, at_marked k)
 
     length_marked : length (with_marked s number status).orders ≡ orders h
     length_marked = length-set s.orders (number - 1) (marked (order_at s number) status) ∙ f.orders.count
