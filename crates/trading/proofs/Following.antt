@@ -1,7 +1,7 @@
 -- The stored day says the board that the history says, and every call keeps it so.
-use Rattle.std.proofs.Common.{◌≡◌, ℕ, suc, ◌-◌, ◌<◌, ◌≤◌, Bool, true, false, cond, not, ◌&&◌, eqb, ltb, leb, ◌⊎◌, List, [], ◌∷◌, ◌++◌, length, ℤ, is_some, Some, None, Ok, Err, Option, Result, unwrap_or, sym, refl, ap, ◌∙◌, subst, inl, inr, arith}
+use Rattle.std.proofs.Common.{◌≡◌, ℕ, suc, ◌-◌, ◌<◌, ◌≤◌, Bool, true, false, cond, not, ◌&&◌, eqb, ltb, leb, ◌⊎◌, List, [], ◌∷◌, ◌++◌, length, ℤ, is_some, Some, None, Ok, Err, Option, Result, unwrap_or, sym, refl, ◌∙◌, subst, inl, inr, arith}
 use Rattle.std.proofs.lemmas.List.{length-append, length-set, length-map}
-use Rattle.std.proofs.lemmas.Bool.{cond-true, cond-false, ltb-false, eq-eqb, ne_eqb, le-ltb, or_from, not_from_false, cases_order, and_left, and_parts, and_from, both_ways, not-false}
+use Rattle.std.proofs.lemmas.Bool.{cond-false, ltb-false, ne_eqb, le-ltb, or_from, not_from_false, and_parts, and_from, both_ways, not-false}
 use Rattle.std.proofs.lemmas.Bool.Decides.{nat_tests}
 use Rattle.rulebook.specs.declared.HoursClass.{HoursClass}
 use Rattle.rulebook.specs.declared.RuleFault.{RuleFault}
@@ -17,7 +17,7 @@ use Rattle.history.specs.declared.DayFault.TheVariants.{Price as Fraction, Minut
 use Rattle.history.specs.declared.EntryField.TheVariants.{Quantity, Participant, Counterparty}
 use Rattle.price.specs.declared.PriceFault.TheVariants.{FractionOutsideLimits}
 use Rattle.price.specs.Closest.{closest}
-use Rattle.history.specs.History.{History, after, accepted, minute, listed, product, figures, collar, halted, letter_named, posted_under, collar_of}
+use Rattle.history.specs.History.{History, after, accepted, minute, listed, product, figures, collar, halted, letter_named}
 use Rattle.history.specs.Prices.{admissible_in, closing_in, is_fraction}
 use Rattle.history.specs.Orders.{Order as Came, order, orders, first, hours_end, ends, waits}
 use Rattle.history.specs.Board.{board, band_on, admissible_on, closing_on, meets_on}
@@ -30,8 +30,8 @@ use Rattle.history.proofs.Firsts.{Nothing, Found, first_is}
 use Rattle.rulebook.specs.Hours.{closing}
 use Rattle.rulebook.proofs.Opening.{open_exactly_in_its_hours}
 use Rattle.day.specs.declared.Status.{Status}
-use Rattle.day.specs.declared.Status.TheVariants.{Waiting, Traded, Withdrawn, Lapsed as Over}
-use Rattle.day.specs.Calls.{marked, is_due, clocked, with_marked, paired, with_one_more, with_terms, with_figures, with_collar, with_halt, changed}
+use Rattle.day.specs.declared.Status.TheVariants.{Waiting, Traded, Withdrawn}
+use Rattle.day.specs.Calls.{marked, clocked, with_marked, paired, with_one_more, with_terms, with_figures, with_collar, with_halt, changed}
 use Rattle.day.proofs.Numbering.{inside}
 use Rattle.day.proofs.Places.{numbered-push, numbered-set, numbered-past, numbered-map}
 
@@ -68,15 +68,6 @@ same_board rules s h f = λ i. record {
   until = λ k. f.orders.until k i;
   waits = λ k. f.orders.waits k i;
 }
-
--- a part of what a test chooses
-of_cond : {A B : Type 0} (part : A → B) (test : Bool) (one other : A) → part (cond test one other) ≡ cond test (part one) (part other)
-of_cond part true one other = refl
-of_cond part false one other = refl
-
-either_way : {A : Type 0} (test : Bool) (one other : A) → (test ≡ true → one ≡ other) → cond test one other ≡ other
-either_way true one other same = same refl
-either_way false one other same = refl
 
 -- a ruling, check by check
 unless : (P : Answer → Type 0) (fault : Option DayFault) (rest : Answer) → ((f : DayFault) → P (Refused f)) → (fault ≡ None → P rest) → P (refuse fault rest)
@@ -119,9 +110,7 @@ module _ (rules : Meaning) (s : State) (h : History) (lawful : Lawful rules h) (
       minute = f.minute;
       contracts = record {
         listed = length-append s.contracts (just_listed number ∷ []) ∙ omega (arith, f.contracts.listed);
-        product = λ c. ap (λ (t : Terms). t.product) (at_grown c)
-            ∙ of_cond (λ (t : Terms). t.product) (eqb c (suc (length s.contracts))) (just_listed number) (contract_at s c)
-            ∙ (λ i. cond (eqb c (suc (f.contracts.listed i))) number (f.contracts.product c i));
+        product = λ c. grind (arith, nat_tests, at_grown c, f.contracts.listed, f.contracts.product c);
         figures = λ c. as_new (λ (t : Terms). t.figures) c refl ∙ f.contracts.figures c;
         collar = λ c. as_new (λ (t : Terms). t.collar) c refl ∙ f.contracts.collar c;
         halted = λ c. as_new (λ (t : Terms). t.halted) c refl ∙ f.contracts.halted c;
@@ -139,15 +128,6 @@ module _ (rules : Meaning) (s : State) (h : History) (lawful : Lawful rules h) (
         let (least, most) = inside (listed h) contract there in
         numbered-set (just_listed 0) s.contracts terms contract c least (omega (arith, f.contracts.listed))
 
-    as_before : {B : Type 0} (part : Terms → B) (c : ℕ) → part terms ≡ part (contract_at s contract) → part (contract_at altered c) ≡ part (contract_at s c)
-    as_before part c kept = grind (arith, nat_tests, kept, at_altered c)
-
-    -- the part that was changed
-    as_changed : {B : Type 0} (part : Terms → B) (said : B → B) (of_history : ℕ → B) (c : ℕ) → part terms ≡ said (part (contract_at s contract))
-        → ((n : ℕ) → part (contract_at s n) ≡ of_history n)
-        → part (contract_at altered c) ≡ cond (eqb c contract) (said (of_history c)) (of_history c)
-    as_changed part said of_history c is same = grind (arith, nat_tests, is, same c, at_altered c)
-
     length-kept : length altered.contracts ≡ listed h
     length-kept = length-set s.contracts (contract - 1) terms ∙ f.contracts.listed
 
@@ -155,14 +135,15 @@ module _ (rules : Meaning) (s : State) (h : History) (lawful : Lawful rules h) (
   unfolding waits
   post_keeps contract letter value there =
       let terms = with_figures (contract_at s contract) (letter_named letter) value in
+      let at = at_altered contract there terms in
       record {
         minute = f.minute;
         contracts = record {
           listed = length-kept contract there terms;
-          product = λ c. as_before contract there terms (λ (t : Terms). t.product) c refl ∙ f.contracts.product c;
-          figures = λ c. as_changed contract there terms (λ (t : Terms). t.figures) (λ (sheet : Sheet). posted_under (letter_named letter) sheet value) (figures h) c refl f.contracts.figures;
-          collar = λ c. as_before contract there terms (λ (t : Terms). t.collar) c refl ∙ f.contracts.collar c;
-          halted = λ c. as_before contract there terms (λ (t : Terms). t.halted) c refl ∙ f.contracts.halted c;
+          product = λ c. grind (arith, nat_tests, at c, f.contracts.product c);
+          figures = λ c. grind (arith, nat_tests, at c, f.contracts.figures c);
+          collar = λ c. grind (arith, nat_tests, at c, f.contracts.collar c);
+          halted = λ c. grind (arith, nat_tests, at c, f.contracts.halted c);
         };
         orders = f.orders;
       }
@@ -171,14 +152,15 @@ module _ (rules : Meaning) (s : State) (h : History) (lawful : Lawful rules h) (
   unfolding waits
   collar_keeps contract low high there =
       let terms = with_collar (contract_at s contract) low high in
+      let at = at_altered contract there terms in
       record {
         minute = f.minute;
         contracts = record {
           listed = length-kept contract there terms;
-          product = λ c. as_before contract there terms (λ (t : Terms). t.product) c refl ∙ f.contracts.product c;
-          figures = λ c. as_before contract there terms (λ (t : Terms). t.figures) c refl ∙ f.contracts.figures c;
-          collar = λ c. as_changed contract there terms (λ (t : Terms). t.collar) (λ _. collar_of low high) (collar h) c refl f.contracts.collar;
-          halted = λ c. as_before contract there terms (λ (t : Terms). t.halted) c refl ∙ f.contracts.halted c;
+          product = λ c. grind (arith, nat_tests, at c, f.contracts.product c);
+          figures = λ c. grind (arith, nat_tests, at c, f.contracts.figures c);
+          collar = λ c. grind (arith, nat_tests, at c, f.contracts.collar c);
+          halted = λ c. grind (arith, nat_tests, at c, f.contracts.halted c);
         };
         orders = f.orders;
       }
@@ -187,14 +169,15 @@ module _ (rules : Meaning) (s : State) (h : History) (lawful : Lawful rules h) (
   unfolding waits
   halt_keeps contract there =
       let terms = with_halt (contract_at s contract) true in
+      let at = at_altered contract there terms in
       record {
         minute = f.minute;
         contracts = record {
           listed = length-kept contract there terms;
-          product = λ c. as_before contract there terms (λ (t : Terms). t.product) c refl ∙ f.contracts.product c;
-          figures = λ c. as_before contract there terms (λ (t : Terms). t.figures) c refl ∙ f.contracts.figures c;
-          collar = λ c. as_before contract there terms (λ (t : Terms). t.collar) c refl ∙ f.contracts.collar c;
-          halted = λ c. as_changed contract there terms (λ (t : Terms). t.halted) (λ _. true) (halted h) c refl f.contracts.halted;
+          product = λ c. grind (arith, nat_tests, at c, f.contracts.product c);
+          figures = λ c. grind (arith, nat_tests, at c, f.contracts.figures c);
+          collar = λ c. grind (arith, nat_tests, at c, f.contracts.collar c);
+          halted = λ c. grind (arith, nat_tests, at c, f.contracts.halted c);
         };
         orders = f.orders;
       }
@@ -203,14 +186,15 @@ module _ (rules : Meaning) (s : State) (h : History) (lawful : Lawful rules h) (
   unfolding waits
   lift_keeps contract there =
       let terms = with_halt (contract_at s contract) false in
+      let at = at_altered contract there terms in
       record {
         minute = f.minute;
         contracts = record {
           listed = length-kept contract there terms;
-          product = λ c. as_before contract there terms (λ (t : Terms). t.product) c refl ∙ f.contracts.product c;
-          figures = λ c. as_before contract there terms (λ (t : Terms). t.figures) c refl ∙ f.contracts.figures c;
-          collar = λ c. as_before contract there terms (λ (t : Terms). t.collar) c refl ∙ f.contracts.collar c;
-          halted = λ c. as_changed contract there terms (λ (t : Terms). t.halted) (λ _. false) (halted h) c refl f.contracts.halted;
+          product = λ c. grind (arith, nat_tests, at c, f.contracts.product c);
+          figures = λ c. grind (arith, nat_tests, at c, f.contracts.figures c);
+          collar = λ c. grind (arith, nat_tests, at c, f.contracts.collar c);
+          halted = λ c. grind (arith, nat_tests, at c, f.contracts.halted c);
         };
         orders = f.orders;
       }
@@ -228,31 +212,15 @@ module _ (rules : Meaning) (s : State) (h : History) (lawful : Lawful rules h) (
     at_clock : (k : ℕ) → order_at (changed rules s (Clock to)) k ≡ clocked to (order_at s k)
     at_clock k = numbered-map no_order (clocked to) refl s.orders k
 
-    kept_by_clock : {B : Type 0} (part : Order → B) (o : Order) → part (marked o Over) ≡ part o → part (clocked to o) ≡ part o
-    kept_by_clock part o kept = grind (arith, kept)
-
-    by_clock : (waiting due : Bool) → cond (waiting && due) false waiting ≡ (waiting && not due)
-    by_clock waiting due = grind arith
-
-    not_yet : (until : ℕ) → not (leb until to) ≡ ltb to until
-    not_yet until = grind (arith, nat_tests)
-
-    waits-by_clock : (o : Order) → is_waiting (clocked to o).status ≡ (is_waiting o.status && ltb to o.until)
-    waits-by_clock o =
-        of_cond (λ (p : Order). is_waiting p.status) (is_due to o) (marked o Over) o
-        ∙ by_clock (is_waiting o.status) (leb o.until to)
-        ∙ ap (λ (b : Bool). is_waiting o.status && b) (not_yet o.until)
-
     clock_keeps : (count : ℕ) → minute h ≤ to → Kept (Clock to) (Lapsed count)
     clock_keeps count later = record {
       minute = refl;
       contracts = f.contracts;
       orders = record {
         count = length-map s.orders (clocked to) ∙ f.orders.count;
-        entry = λ k. ap (λ (o : Order). o.entry) (at_clock k) ∙ kept_by_clock (λ (o : Order). o.entry) (order_at s k) refl ∙ f.orders.entry k;
-        until = λ k. ap (λ (o : Order). o.until) (at_clock k) ∙ kept_by_clock (λ (o : Order). o.until) (order_at s k) refl ∙ f.orders.until k;
-        waits = λ k. ap (λ (o : Order). is_waiting o.status) (at_clock k) ∙ waits-by_clock (order_at s k)
-            ∙ (λ i. f.orders.waits k i && ltb to (f.orders.until k i)) ∙ sym (waits-clock rules h to count k later);
+        entry = λ k. grind (arith, at_clock k, f.orders.entry k);
+        until = λ k. grind (arith, at_clock k, f.orders.until k);
+        waits = λ k. grind (arith, nat_tests, at_clock k, f.orders.until k, f.orders.waits k, waits-clock rules h to count k later);
       };
     }
 
@@ -262,13 +230,6 @@ module _ (rules : Meaning) (s : State) (h : History) (lawful : Lawful rules h) (
     at_marked k =
         let (least, most) = inside (orders h) number there in
         numbered-set no_order s.orders (marked (order_at s number) status) number k least (omega (arith, f.orders.count))
-
-    kept_by_mark : {B : Type 0} (part : Order → B) (k : ℕ) → part (marked (order_at s number) status) ≡ part (order_at s number)
-        → part (order_at (with_marked s number status) k) ≡ part (order_at s k)
-    kept_by_mark part k kept = grind (arith, nat_tests, kept, at_marked k)
-
-    off : (test waiting : Bool) → cond test false waiting ≡ (waiting && not test)
-    off test waiting = grind arith
 
     waits-by_mark : is_waiting status ≡ false → (k : ℕ) → is_waiting (order_at (with_marked s number status) k).status ≡ (waits rules h k && not (eqb k number))
     waits-by_mark done k = grind (arith, nat_tests, done, f.orders.waits k, at_marked k)
@@ -282,8 +243,8 @@ module _ (rules : Meaning) (s : State) (h : History) (lawful : Lawful rules h) (
     contracts = f.contracts;
     orders = record {
       count = length_marked number there Withdrawn;
-      entry = λ k. kept_by_mark number there Withdrawn (λ (o : Order). o.entry) k refl ∙ f.orders.entry k;
-      until = λ k. kept_by_mark number there Withdrawn (λ (o : Order). o.until) k refl ∙ f.orders.until k;
+      entry = λ k. grind (arith, nat_tests, at_marked number there Withdrawn k, f.orders.entry k);
+      until = λ k. grind (arith, nat_tests, at_marked number there Withdrawn k, f.orders.until k);
       waits = λ k. waits-by_mark number there Withdrawn refl k ∙ sym (waits-withdraw rules h number participant k);
     };
   }
@@ -306,26 +267,14 @@ module _ (rules : Meaning) (s : State) (h : History) (lawful : Lawful rules h) (
     at_joined : (k : ℕ) → order_at joined k ≡ cond (eqb k (suc (orders h))) newest (numbered no_order list k)
     at_joined k = numbered-push no_order list newest k ∙ (λ i. cond (eqb k (suc (long i))) newest (numbered no_order list k))
 
-    part_joined : {B : Type 0} (part : Order → B) (k : ℕ) → part (order_at joined k) ≡ cond (eqb k (suc (orders h))) (part newest) (part (numbered no_order list k))
-    part_joined part k = ap part (at_joined k) ∙ of_cond part (eqb k (suc (orders h))) newest (numbered no_order list k)
-
     abbrev came : Came
     came = record { entry = entry; before = h; partner = p }
 
     waits-joined : ((k : ℕ) → is_waiting (numbered no_order list k).status ≡ (waits rules h k && not (eqb k p)))
         → ((k : ℕ) → k ≡ suc (orders h) → is_waiting status ≡ waits rules later k)
         → (k : ℕ) → is_waiting (order_at joined k).status ≡ waits rules later k
-    waits-joined before new k = part_joined (λ (o : Order). is_waiting o.status) k ∙ placed (cases_order k (suc (orders h)))
-      where
-        placed : (k ≡ suc (orders h)) ⊎ ((k < suc (orders h)) ⊎ (suc (orders h) < k))
-            → cond (eqb k (suc (orders h))) (is_waiting status) (is_waiting (numbered no_order list k).status) ≡ waits rules later k
-        placed (inl is) = cond-true (eqb k (suc (orders h))) _ _ (eq-eqb k (suc (orders h)) is) ∙ new k is
-        placed (inr (inl less)) =
-            cond-false (eqb k (suc (orders h))) _ _ (ne_eqb k (suc (orders h)) (λ is. omega arith)) ∙ before k
-            ∙ sym (waits-enter rules h entry p k (omega arith))
-        placed (inr (inr more)) =
-            cond-false (eqb k (suc (orders h))) _ _ (ne_eqb k (suc (orders h)) (λ is. omega arith)) ∙ before k
-            ∙ and_left (waits rules h k) _ (waits-known rules h k (omega arith)) ∙ sym (waits-known rules later k more)
+    waits-joined before new k =
+        grind (arith, nat_tests, at_joined k, before k, new k, waits-enter rules h entry p k, waits-known rules h k, waits-known rules later k)
 
     joined_keeps : ((k : ℕ) → (numbered no_order list k).entry ≡ (order h k).entry) → ((k : ℕ) → (numbered no_order list k).until ≡ ends rules h k)
         → ((k : ℕ) → is_waiting (numbered no_order list k).status ≡ (waits rules h k && not (eqb k p)))
@@ -336,10 +285,8 @@ module _ (rules : Meaning) (s : State) (h : History) (lawful : Lawful rules h) (
       contracts = f.contracts;
       orders = record {
         count = length-append list (newest ∷ []) ∙ omega (arith, long);
-        entry = λ k. part_joined (λ (o : Order). o.entry) k ∙ (λ i. cond (eqb k (suc (orders h))) entry (entries k i))
-            ∙ sym (of_cond (λ (c : Came). c.entry) (eqb k (suc (orders h))) came (order h k));
-        until = λ k. part_joined (λ (o : Order). o.until) k ∙ (λ i. cond (eqb k (suc (orders h))) (hours_end rules h entry) (untils k i))
-            ∙ sym (of_cond (λ (c : Came). hours_end rules c.before c.entry) (eqb k (suc (orders h))) came (order h k));
+        entry = λ k. grind (arith, nat_tests, at_joined k, entries k);
+        until = λ k. grind (arith, nat_tests, at_joined k, untils k);
         waits = waits-joined before new;
       };
     }
@@ -364,8 +311,8 @@ module _ (rules : Meaning) (s : State) (h : History) (lawful : Lawful rules h) (
         let there : outside (orders h) p ≡ false = or_from (eqb p 0) _ (ne_eqb p 0 (λ is. omega arith)) (le-ltb (orders h) p most) in
         subst (λ (t : State). Follows rules t (after h (Enter entry) (Ordered (suc (orders h)) p))) (sym (cond-false (eqb p 0) _ _ (ne_eqb p 0 (λ is. omega arith))))
         (joined_keeps entry p Traded (with_marked s p Traded).orders (length_marked p there Traded) most
-        (λ k. kept_by_mark p there Traded (λ (o : Order). o.entry) k refl ∙ f.orders.entry k)
-        (λ k. kept_by_mark p there Traded (λ (o : Order). o.until) k refl ∙ f.orders.until k)
+        (λ k. grind (arith, nat_tests, at_marked p there Traded k, f.orders.entry k))
+        (λ k. grind (arith, nat_tests, at_marked p there Traded k, f.orders.until k))
         (waits-by_mark p there Traded refl)
         (λ k is. sym (waits-not rules h entry p k least is)))
 
