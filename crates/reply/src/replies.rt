@@ -69,7 +69,7 @@ impl Reply {
     }
 }
 
-/// A head, each number after a blank, and byte 10.
+/// A head, each number after a blank, and byte 10. 128 bits hold every `u64` and every `i64`.
 fn line(head: &[u8], numbers: &[i128]) -> ArrayVec<u8, LONGEST_REPLY>
     requires { length (line head.now numbers.now) ≤ 44 }
     ensures { result.items ≡ line head.now numbers.now }
