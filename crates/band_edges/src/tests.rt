@@ -5,225 +5,197 @@ use rulebook::{FigureFault, Figures, HoursClass, Letter, RuleFault, Rulebook};
 use std::process::Abort;
 use std::test::Fail;
 
-/// A product with its figures in the order of their rank, 0 for blank, and the ends of its prices.
+/// A product with its figures, the others blank, and the ends of its prices.
 #[derive(Drop)]
 struct Edges {
     product: u64,
-    figures: [u64; 13],
+    figures: &'static [(Letter, u64)],
     lowest: u64,
     highest: u64,
 }
 
-//    B, O, L, U, V, W, X, Y, Z, H, I, K, M
 const SINGLE_ISSUE: [Edges; 22] = [
     Edges {
         product: 1,
-        figures: [0, 0, 0, 1_400_150, 0, 0, 0, 0, 0, 0, 0, 0, 0],
+        figures: &[(Letter::U, 1_400_150)],
         lowest: 1_393_150,
         highest: 1_407_150,
     },
     Edges {
         product: 2,
-        figures: [0, 0, 1_390_033, 1_380_707, 0, 0, 0, 0, 0, 0, 0, 0, 0],
+        figures: &[(Letter::L, 1_390_033), (Letter::U, 1_380_707)],
         lowest: 1_362_419,
         highest: 1_417_647,
     },
     Edges {
         product: 3,
-        figures: [
-            1_400_150, 1_400_250, 0, 1_399_999, 0, 0, 0, 0, 0, 0, 0, 0, 0,
+        figures: &[
+            (Letter::B, 1_400_150),
+            (Letter::O, 1_400_250),
+            (Letter::U, 1_399_999),
         ],
         lowest: 1_393_201,
         highest: 1_407_199,
     },
     Edges {
         product: 4,
-        figures: [992_512, 992_526, 0, 992_500, 0, 0, 0, 0, 0, 0, 0, 0, 0],
+        figures: &[
+            (Letter::B, 992_512),
+            (Letter::O, 992_526),
+            (Letter::U, 992_500),
+        ],
         lowest: 987_563,
         highest: 997_487,
     },
     Edges {
         product: 5,
-        figures: [
-            400_000_000,
-            400_100_000,
-            0,
-            400_000_000,
-            0,
-            0,
-            0,
-            0,
-            0,
-            0,
-            0,
-            0,
-            0,
+        figures: &[
+            (Letter::B, 400_000_000),
+            (Letter::O, 400_100_000),
+            (Letter::U, 400_000_000),
         ],
         lowest: 368_100_000,
         highest: 432_100_000,
     },
     Edges {
         product: 6,
-        figures: [
-            399_960_000,
-            400_010_000,
-            400_300_000,
-            400_000_001,
-            0,
-            0,
-            0,
-            0,
-            0,
-            0,
-            0,
-            0,
-            1,
+        figures: &[
+            (Letter::B, 399_960_000),
+            (Letter::O, 400_010_000),
+            (Letter::L, 400_300_000),
+            (Letter::U, 400_000_001),
+            (Letter::M, 1),
         ],
         lowest: 368_000_000,
         highest: 432_000_000,
     },
     Edges {
         product: 7,
-        figures: [
-            27_000_000, 27_010_000, 27_123_457, 27_000_003, 0, 0, 0, 0, 0, 0, 0, 0, 2,
+        figures: &[
+            (Letter::B, 27_000_000),
+            (Letter::O, 27_010_000),
+            (Letter::L, 27_123_457),
+            (Letter::U, 27_000_003),
+            (Letter::M, 2),
         ],
         lowest: 24_963_457,
         highest: 29_283_457,
     },
     Edges {
         product: 8,
-        figures: [
-            27_001_000, 27_002_000, 0, 27_000_003, 0, 0, 0, 0, 0, 0, 0, 0, 0,
+        figures: &[
+            (Letter::B, 27_001_000),
+            (Letter::O, 27_002_000),
+            (Letter::U, 27_000_003),
         ],
         lowest: 24_842_500,
         highest: 29_162_500,
     },
     Edges {
         product: 9,
-        figures: [0, 0, 250_050, 249_999, 0, 0, 0, 0, 0, 0, 0, 0, 0],
+        figures: &[(Letter::L, 250_050), (Letter::U, 249_999)],
         lowest: 200_051,
         highest: 300_049,
     },
     Edges {
         product: 10,
-        figures: [5_003_000, 0, 0, 5_000_007, 0, 0, 0, 0, 0, 0, 0, 0, 0],
+        figures: &[(Letter::B, 5_003_000), (Letter::U, 5_000_007)],
         lowest: 4_500_007,
         highest: 5_500_007,
     },
     Edges {
         product: 11,
-        figures: [0, 0, 190_012_340, 189_999_990, 0, 0, 0, 0, 0, 0, 0, 0, 0],
+        figures: &[(Letter::L, 190_012_340), (Letter::U, 189_999_990)],
         lowest: 129_212_350,
         highest: 250_812_330,
     },
     Edges {
         product: 12,
-        figures: [0, 0, 0, 45_000_700, 0, 0, 0, 0, 0, 0, 0, 0, 0],
+        figures: &[(Letter::U, 45_000_700)],
         lowest: 30_600_500,
         highest: 59_400_900,
     },
     Edges {
         product: 13,
-        figures: [0, 0, 1_500_003, 1_499_999, 0, 0, 0, 0, 0, 0, 0, 0, 0],
+        figures: &[(Letter::L, 1_500_003), (Letter::U, 1_499_999)],
         lowest: 1_020_004,
         highest: 1_980_002,
     },
     Edges {
         product: 14,
-        figures: [0, 0, 3_801_230, 3_799_990, 0, 0, 0, 0, 0, 0, 0, 0, 0],
+        figures: &[(Letter::L, 3_801_230), (Letter::U, 3_799_990)],
         lowest: 2_585_240,
         highest: 5_017_220,
     },
     Edges {
         product: 15,
-        figures: [0, 0, 1_000_000, 1_000_000, 0, 0, 0, 0, 0, 0, 0, 0, 0],
+        figures: &[(Letter::L, 1_000_000), (Letter::U, 1_000_000)],
         lowest: 680_000,
         highest: 1_320_000,
     },
     Edges {
         product: 16,
-        figures: [0, 0, 0, 1_234_000, 0, 0, 0, 0, 0, 0, 0, 0, 0],
+        figures: &[(Letter::U, 1_234_000)],
         lowest: 840_000,
         highest: 1_628_000,
     },
     Edges {
         product: 17,
-        figures: [
-            0, 0, 0, 100_000, 20_000_000, 20_500_000, 0, 0, 0, 0, 0, 0, 0,
+        figures: &[
+            (Letter::U, 100_000),
+            (Letter::V, 20_000_000),
+            (Letter::W, 20_500_000),
         ],
         lowest: 1000,
         highest: 2_200_000,
     },
     Edges {
         product: 18,
-        figures: [
-            0, 0, 0, 1_000_000, 5_000_000, 4_876_543, 0, 0, 0, 0, 0, 0, 0,
+        figures: &[
+            (Letter::U, 1_000_000),
+            (Letter::V, 5_000_000),
+            (Letter::W, 4_876_543),
         ],
         lowest: 480_000,
         highest: 1_520_000,
     },
     Edges {
         product: 19,
-        figures: [12_300, 12_500, 0, 12_000, 0, 0, 1_400_150, 0, 0, 0, 0, 0, 0],
+        figures: &[
+            (Letter::B, 12_300),
+            (Letter::O, 12_500),
+            (Letter::U, 12_000),
+            (Letter::X, 1_400_150),
+        ],
         lowest: 5400,
         highest: 19_400,
     },
     Edges {
         product: 20,
-        figures: [
-            0,
-            0,
-            0,
-            7_000_000,
-            0,
-            0,
-            0,
-            379_001_111,
-            380_001_230,
-            0,
-            0,
-            0,
-            0,
+        figures: &[
+            (Letter::U, 7_000_000),
+            (Letter::Y, 379_001_111),
+            (Letter::Z, 380_001_230),
         ],
         lowest: 1,
         highest: 38_400_217,
     },
     Edges {
         product: 21,
-        figures: [
-            0,
-            0,
-            0,
-            7_000_000,
-            0,
-            0,
-            0,
-            381_001_111,
-            380_001_230,
-            0,
-            0,
-            0,
-            0,
+        figures: &[
+            (Letter::U, 7_000_000),
+            (Letter::Y, 381_001_111),
+            (Letter::Z, 380_001_230),
         ],
         lowest: 1,
         highest: 49_800_016,
     },
     Edges {
         product: 22,
-        figures: [
-            0,
-            0,
-            1_500_000,
-            1_400_000,
-            0,
-            0,
-            190_000_000,
-            0,
-            0,
-            0,
-            0,
-            0,
-            0,
+        figures: &[
+            (Letter::L, 1_500_000),
+            (Letter::U, 1_400_000),
+            (Letter::X, 190_000_000),
         ],
         lowest: 100,
         highest: 20_500_000,
@@ -233,56 +205,52 @@ const SINGLE_ISSUE: [Edges; 22] = [
 const FLEXIBLE: [Edges; 4] = [
     Edges {
         product: 1,
-        figures: [0, 0, 0, 0, 0, 0, 0, 0, 0, 400_000_123, 0, 0, 0],
+        figures: &[(Letter::H, 400_000_123)],
         lowest: 304_000_094,
         highest: 496_000_152,
     },
     Edges {
         product: 2,
-        figures: [
-            0, 0, 0, 0, 20_000_001, 19_876_543, 0, 0, 0, 3_333_333, 0, 0, 0,
+        figures: &[
+            (Letter::V, 20_000_001),
+            (Letter::W, 19_876_543),
+            (Letter::H, 3_333_333),
         ],
         lowest: 1,
         highest: 7_456_791,
     },
     Edges {
         product: 3,
-        figures: [
-            0,
-            0,
-            0,
-            0,
-            0,
-            0,
-            0,
-            379_001_111,
-            380_001_233,
-            123_456_789,
-            0,
-            0,
-            0,
+        figures: &[
+            (Letter::Y, 379_001_111),
+            (Letter::Z, 380_001_233),
+            (Letter::H, 123_456_789),
         ],
         lowest: 80_656_532,
         highest: 166_257_046,
     },
     Edges {
         product: 4,
-        figures: [0, 0, 0, 0, 0, 0, 0, 0, 3_000_000, 300_000, 3_000_000, 0, 0],
+        figures: &[
+            (Letter::Z, 3_000_000),
+            (Letter::H, 300_000),
+            (Letter::I, 3_000_000),
+        ],
         lowest: 1,
         highest: 630_000,
     },
 ];
 
-fn posted(values: &[u64; 13]) -> Result<Figures, FigureFault> {
+fn posted(values: &[(Letter, u64)]) -> Result<Figures, FigureFault> {
     let mut figures = Figures::blank();
-    for i in 0..13 {
-        figures.post(Letter::ALL[i], values[i])?;
+    for (letter, value) in values {
+        figures.post(*letter, *value)?;
     }
     Ok(figures)
 }
 
 fn check_edges<R: Rulebook>(rt: &impl Abort, book: &R, row: &Edges) -> Result<(), Fail> {
-    let band = book.band(row.product, &posted(&row.figures)?)?;
+    let band = book.band(row.product, &posted(row.figures)?)?;
     let prices = Limit::new(band.grid, band.low, band.high)?;
     assert!(rt; prices.has(row.lowest) && prices.has(row.highest));
     let (lowest, _) = nearest(&prices, Fraction::new(0, 1)?).ok_or(1u8)?;
@@ -312,11 +280,10 @@ fn flexible_edges(rt: HostRuntime) -> Result<(), Fail> {
 
 #[test]
 fn compression_at_settlement(rt: HostRuntime) -> Result<(), Fail> {
-    let figures = [0, 0, 0, 0, 0, 0, 0, 0, 0, 0, 0, 390_012_345, 0];
     for product in [1, 2] {
         let row = Edges {
             product,
-            figures,
+            figures: &[(Letter::K, 390_012_345)],
             lowest: 390_012_345,
             highest: 390_012_345,
         };

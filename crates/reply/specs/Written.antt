@@ -1,10 +1,12 @@
--- The parts of a number that is written: what stands before its last digit, and its sign.
-use Rattle.std.specs.Prelude.{ℕ, ◌/◌, cond, List, [], ◌∷◌, ◌++◌, ℤ, pos, Some, None, Option, int_lt, nat_lt}
+-- A line as it is written: a head, and numbers.
+use Rattle.std.specs.Prelude.{ℕ, ℤ, List, ◌++◌, codes}
+use Rattle.std.specs.Fmt.{signed_decimal}
+use Rattle.std.specs.List.{flat_map}
 
--- none where the number has one digit
-abbrev pub front : ℕ → Option ℕ
-front n = cond (nat_lt n 10) None (Some (n / 10))
+-- a blank, and the number in base ten without leading zeros, a negative one after a minus sign
+abbrev pub field : ℤ → List ℕ
+field n = codes " " ++ signed_decimal n
 
--- bytes, and a minus sign after them where the number is negative
-abbrev pub with_sign : ℤ → List ℕ → List ℕ
-with_sign z bytes = cond (int_lt z (pos 0)) (bytes ++ 45 ∷ []) bytes
+-- the head, the numbers, and byte 10
+abbrev pub line : List ℕ → List ℤ → List ℕ
+line head numbers = head ++ (flat_map field numbers ++ codes "\n")

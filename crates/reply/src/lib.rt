@@ -3,7 +3,6 @@
 
 mod faults;
 mod replies;
-mod writing;
 
 pub use faults::{Layer, LineFault};
 pub use replies::{LONGEST_REPLY, Reply};

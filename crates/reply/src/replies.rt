@@ -1,11 +1,12 @@
 //! What a line is replied, as bytes.
-ghost use Rattle.std.specs.Prelude.{◌≡◌, ◌+◌, ◌-◌, ◌≤◌, [], ◌∷◌, ◌++◌, is_ok, if◌then◌else◌, vec_len, vec_capacity, codes, decimal, nat_le};
+ghost use Rattle.std.specs.Prelude.{◌≡◌, ◌+◌, ◌-◌, ◌≤◌, [], ◌++◌, length, is_ok, if◌then◌else◌, vec_len, vec_capacity, nat_le};
 ghost use Rattle.reply.specs.Replies.{text};
-ghost use Rattle.reply.specs.declared.replies.Reply.TheVariants.{Priced, Ordered, Refused};
+ghost use Rattle.reply.specs.Written.{line};
 
 use super::faults::LineFault;
-use super::writing::{put_number, put_signed};
+use arrayvec::ArrayVec;
 use history::TooLittleRoom;
+use itoa::Buffer;
 
 /// No reply has more bytes: a letter and a blank, 20 bytes, a blank, 20 bytes, and byte 10.
 pub const LONGEST_REPLY: usize = 44;
@@ -40,97 +41,48 @@ impl Reply {
         if LONGEST_REPLY > out.capacity() - out.len() {
             return Err(TooLittleRoom);
         }
-        self.write(out);
+        for byte in self.text().as_slice() {
+            out.push_reserved(*byte);
+        }
         Ok(())
     }
 
-    /// Writes the reply after what `out` holds. The room is there before, so nothing can fail; no
-    /// reply takes more than 44 bytes.
-    pub(crate) fn write(self, out: &mut Vec<u8>)
-        requires { vec_len out.old + 44 ≤ vec_capacity out.old }
-        ensures items { out.new.items ≡ out.old.items ++ text self }
-        ensures within { vec_len out.new ≤ vec_len out.old + 44 }
-        ensures capacity { vec_capacity out.new ≡ vec_capacity out.old }
+    /// The bytes of the reply.
+    fn text(self) -> ArrayVec<u8, LONGEST_REPLY>
+        ensures { result.items ≡ text self }
     {
         match self {
-            Reply::Listed(contract) => put_one(out, b'L', contract),
-            Reply::Posted => put_letter(out, b'P'),
-            Reply::Collared => put_letter(out, b'K'),
-            Reply::Lapsed(orders) => put_one(out, b'C', orders),
-            Reply::Halted => put_letter(out, b'H'),
-            Reply::Lifted => put_letter(out, b'G'),
-            Reply::Priced(price, distance) => put_price(out, price, distance),
-            Reply::Ordered(order, partner) => put_order(out, order, partner),
-            Reply::Withdrawn => put_letter(out, b'W'),
-            Reply::Refused(fault) => put_refusal(out, fault),
+            Reply::Listed(contract) => line(b"L", &[contract.into()]),
+            Reply::Posted => line(b"P", &[]),
+            Reply::Collared => line(b"K", &[]),
+            Reply::Lapsed(orders) => line(b"C", &[orders.into()]),
+            Reply::Halted => line(b"H", &[]),
+            Reply::Lifted => line(b"G", &[]),
+            Reply::Priced(price, distance) => line(b"A", &[price.into(), distance.into()]),
+            Reply::Ordered(order, partner) => line(b"E", &[order.into(), partner.into()]),
+            Reply::Withdrawn => line(b"W", &[]),
+            Reply::Refused(fault) => {
+                let head = [b'X', b' ', fault.layer().letter()];
+                line(&head, &[fault.number().into(), fault.place().into()])
+            }
         }
     }
 }
 
-/// A letter alone on its line.
-fn put_letter(out: &mut Vec<u8>, letter: u8)
-    requires { vec_len out.old + 2 ≤ vec_capacity out.old }
-    ensures items { out.new.items ≡ out.old.items ++ letter ∷ codes "\n" }
-    ensures within { vec_len out.new ≤ vec_len out.old + 2 }
-    ensures capacity { vec_capacity out.new ≡ vec_capacity out.old }
+/// A head, each number after a blank, and byte 10. 128 bits hold every `u64` and every `i64`.
+fn line(head: &[u8], numbers: &[i128]) -> ArrayVec<u8, LONGEST_REPLY>
+    requires { length (line head.now numbers.now) ≤ 44 }
+    ensures { result.items ≡ line head.now numbers.now }
 {
-    out.push_reserved(letter);
-    out.push_reserved(b'\n');
-}
-
-/// A letter and a number.
-fn put_one(out: &mut Vec<u8>, letter: u8, n: u64)
-    requires { vec_len out.old + 23 ≤ vec_capacity out.old }
-    ensures items { out.new.items ≡ out.old.items ++ letter ∷ (codes " " ++ (decimal n ++ codes "\n")) }
-    ensures within { vec_len out.new ≤ vec_len out.old + 23 }
-    ensures capacity { vec_capacity out.new ≡ vec_capacity out.old }
-{
-    out.push_reserved(letter);
-    out.push_reserved(b' ');
-    put_number(out, n);
-    out.push_reserved(b'\n');
-}
-
-fn put_price(out: &mut Vec<u8>, price: u64, distance: i64)
-    requires { vec_len out.old + 44 ≤ vec_capacity out.old }
-    ensures items { out.new.items ≡ out.old.items ++ text (Priced price distance) }
-    ensures within { vec_len out.new ≤ vec_len out.old + 44 }
-    ensures capacity { vec_capacity out.new ≡ vec_capacity out.old }
-{
-    out.push_reserved(b'A');
-    out.push_reserved(b' ');
-    put_number(out, price);
-    out.push_reserved(b' ');
-    put_signed(out, distance);
-    out.push_reserved(b'\n');
-}
-
-fn put_order(out: &mut Vec<u8>, order: u64, partner: u64)
-    requires { vec_len out.old + 44 ≤ vec_capacity out.old }
-    ensures items { out.new.items ≡ out.old.items ++ text (Ordered order partner) }
-    ensures within { vec_len out.new ≤ vec_len out.old + 44 }
-    ensures capacity { vec_capacity out.new ≡ vec_capacity out.old }
-{
-    out.push_reserved(b'E');
-    out.push_reserved(b' ');
-    put_number(out, order);
-    out.push_reserved(b' ');
-    put_number(out, partner);
-    out.push_reserved(b'\n');
-}
-
-fn put_refusal(out: &mut Vec<u8>, fault: LineFault)
-    requires { vec_len out.old + 44 ≤ vec_capacity out.old }
-    ensures items { out.new.items ≡ out.old.items ++ text (Refused fault) }
-    ensures within { vec_len out.new ≤ vec_len out.old + 44 }
-    ensures capacity { vec_capacity out.new ≡ vec_capacity out.old }
-{
-    out.push_reserved(b'X');
-    out.push_reserved(b' ');
-    out.push_reserved(fault.layer().letter());
-    out.push_reserved(b' ');
-    put_number(out, fault.number());
-    out.push_reserved(b' ');
-    put_number(out, fault.place());
-    out.push_reserved(b'\n');
+    let mut written = ArrayVec::new();
+    written.try_extend_from_slice(head).unwrap();
+    for number in numbers {
+        written.push(b' ');
+        let mut digits = Buffer::new();
+        written
+            .try_extend_from_slice(digits.format(*number).as_bytes())
+            .unwrap();
+    }
+    written.push(b'\n');
+    written
 }

@@ -17,13 +17,6 @@ fn entry(line: &[u8]) -> Option<Entry> {
     }
 }
 
-fn is_bid(entry: Entry) -> bool {
-    match entry.side {
-        Side::Bid => true,
-        Side::Offer => false,
-    }
-}
-
 fn writes(heap: Global, reply: Reply, expected: &[u8]) -> Result<bool, Fail> {
     let mut out = Vec::with_capacity(heap, LONGEST_REPLY)?;
     reply.write_to(&mut out)?;
@@ -87,10 +80,10 @@ fn refusals_in_their_order(rt: HostRuntime) {
 #[test]
 fn sides_by_their_letters(rt: HostRuntime) -> Result<(), Fail> {
     let bid = entry(b"B 1 2 3 4 5").ok_or("no bid")?;
-    assert!(rt; is_bid(bid));
+    assert_eq!(rt; bid.side, Side::Bid);
     assert!(rt; bid.contract == 1 && bid.price == 2 && bid.quantity == 3);
     assert!(rt; bid.participant == 4 && bid.counterparty == 5);
-    assert!(rt; !is_bid(entry(b"S 1 2 3 4 5").ok_or("no offer")?));
+    assert_eq!(rt; entry(b"S 1 2 3 4 5").ok_or("no offer")?.side, Side::Offer);
     Ok(())
 }
 

@@ -1,7 +1,8 @@
 -- The stored day says the board that the history says, and every call keeps it so.
-use Rattle.std.proofs.Common.{◌≡◌, ℕ, suc, ◌-◌, ◌<◌, ◌≤◌, Bool, true, false, cond, not, ◌&&◌, eqb, ltb, leb, ◌⊎◌, List, [], ◌∷◌, ◌++◌, length, ℤ, is_some, Some, None, Ok, Err, Option, Result, unwrap_or, sym, refl, ap, ◌∙◌, subst, inl, inr, arith}
+use Rattle.std.proofs.Common.{◌≡◌, ℕ, suc, ◌-◌, ◌<◌, ◌≤◌, Bool, true, false, cond, not, ◌&&◌, eqb, ltb, leb, ◌⊎◌, List, [], ◌∷◌, ◌++◌, length, ℤ, is_some, Some, None, Ok, Err, Option, Result, unwrap_or, sym, refl, ◌∙◌, subst, inl, inr, arith}
 use Rattle.std.proofs.lemmas.List.{length-append, length-set, length-map}
-use Rattle.std.proofs.lemmas.Bool.{cond-true, cond-false, eqb-true, ltb-false, eq-eqb, ne_eqb, lt-ltb, le-ltb, lt-leb, le-leb, or_from, not_from_false, cases_lt, cases_order, and_left, and_parts, and_from, both_ways, not-false, not_from_true}
+use Rattle.std.proofs.lemmas.Bool.{cond-false, ltb-false, ne_eqb, le-ltb, or_from, not_from_false, and_parts, and_from, both_ways, not-false}
+use Rattle.std.proofs.lemmas.Bool.Decides.{nat_tests}
 use Rattle.rulebook.specs.declared.HoursClass.{HoursClass}
 use Rattle.rulebook.specs.declared.RuleFault.{RuleFault}
 use Rattle.rulebook.specs.Sheets.{Sheet}
@@ -16,7 +17,7 @@ use Rattle.history.specs.declared.DayFault.TheVariants.{Price as Fraction, Minut
 use Rattle.history.specs.declared.EntryField.TheVariants.{Quantity, Participant, Counterparty}
 use Rattle.price.specs.declared.PriceFault.TheVariants.{FractionOutsideLimits}
 use Rattle.price.specs.Closest.{closest}
-use Rattle.history.specs.History.{History, after, accepted, minute, listed, product, figures, collar, halted, letter_named, posted_under, collar_of}
+use Rattle.history.specs.History.{History, after, accepted, minute, listed, product, figures, collar, halted, letter_named}
 use Rattle.history.specs.Prices.{admissible_in, closing_in, is_fraction}
 use Rattle.history.specs.Orders.{Order as Came, order, orders, first, hours_end, ends, waits}
 use Rattle.history.specs.Board.{board, band_on, admissible_on, closing_on, meets_on}
@@ -29,45 +30,44 @@ use Rattle.history.proofs.Firsts.{Nothing, Found, first_is}
 use Rattle.rulebook.specs.Hours.{closing}
 use Rattle.rulebook.proofs.Opening.{open_exactly_in_its_hours}
 use Rattle.day.specs.declared.Status.{Status}
-use Rattle.day.specs.declared.Status.TheVariants.{Waiting, Traded, Withdrawn, Lapsed as Over}
-use Rattle.day.specs.Calls.{marked, is_due, clocked, with_marked, paired, with_one_more, with_terms, with_figures, with_collar, with_halt, changed}
+use Rattle.day.specs.declared.Status.TheVariants.{Waiting, Traded, Withdrawn}
+use Rattle.day.specs.Calls.{marked, clocked, with_marked, paired, with_one_more, with_terms, with_figures, with_collar, with_halt, changed}
 use Rattle.day.proofs.Numbering.{inside}
 use Rattle.day.proofs.Places.{numbered-push, numbered-set, numbered-past, numbered-map}
 
+-- contracts that are as many as said, each with the product, the figures, the collar and the halt that are said of it
+pub record AreContracts (contracts : List Terms) (many : ℕ) (products : ℕ → ℕ) (sheets : ℕ → Sheet) (collars : ℕ → Option (ℕ × ℕ)) (halts : ℕ → Bool) : Type 0 where
+  pub listed : length contracts ≡ many
+  pub product : (c : ℕ) → (numbered (just_listed 0) contracts c).product ≡ products c
+  pub figures : (c : ℕ) → (numbered (just_listed 0) contracts c).figures ≡ sheets c
+  pub collar : (c : ℕ) → (numbered (just_listed 0) contracts c).collar ≡ collars c
+  pub halted : (c : ℕ) → (numbered (just_listed 0) contracts c).halted ≡ halts c
+
+-- the same of orders
+pub record AreOrders (list : List Order) (many : ℕ) (entries : ℕ → Entry) (untils : ℕ → ℕ) (waiting : ℕ → Bool) : Type 0 where
+  pub count : length list ≡ many
+  pub entry : (k : ℕ) → (numbered no_order list k).entry ≡ entries k
+  pub until : (k : ℕ) → (numbered no_order list k).until ≡ untils k
+  pub waits : (k : ℕ) → is_waiting (numbered no_order list k).status ≡ waiting k
+
 pub record Follows (rules : Meaning) (s : State) (h : History) : Type 0 where
   pub minute : s.minute ≡ minute h
-  pub listed : length s.contracts ≡ listed h
-  pub product : (c : ℕ) → (contract_at s c).product ≡ product h c
-  pub figures : (c : ℕ) → (contract_at s c).figures ≡ figures h c
-  pub collar : (c : ℕ) → (contract_at s c).collar ≡ collar h c
-  pub halted : (c : ℕ) → (contract_at s c).halted ≡ halted h c
-  pub orders : length s.orders ≡ orders h
-  pub entry : (k : ℕ) → (order_at s k).entry ≡ (order h k).entry
-  pub until : (k : ℕ) → (order_at s k).until ≡ ends rules h k
-  pub waits : (k : ℕ) → is_waiting (order_at s k).status ≡ waits rules h k
+  pub contracts : AreContracts s.contracts (listed h) (λ c. product h c) (λ c. figures h c) (λ c. collar h c) (λ c. halted h c)
+  pub orders : AreOrders s.orders (orders h) (λ k. (order h k).entry) (λ k. ends rules h k) (λ k. waits rules h k)
 
 pub same_board : (rules : Meaning) (s : State) (h : History) → Follows rules s h → board_of s ≡ board rules h
 same_board rules s h f = λ i. record {
   minute = f.minute i;
-  listed = f.listed i;
-  product = λ c. f.product c i;
-  figures = λ c. f.figures c i;
-  collar = λ c. f.collar c i;
-  halted = λ c. f.halted c i;
-  orders = f.orders i;
-  entry = λ k. f.entry k i;
-  until = λ k. f.until k i;
-  waits = λ k. f.waits k i;
+  listed = f.contracts.listed i;
+  product = λ c. f.contracts.product c i;
+  figures = λ c. f.contracts.figures c i;
+  collar = λ c. f.contracts.collar c i;
+  halted = λ c. f.contracts.halted c i;
+  orders = f.orders.count i;
+  entry = λ k. f.orders.entry k i;
+  until = λ k. f.orders.until k i;
+  waits = λ k. f.orders.waits k i;
 }
-
--- a part of what a test chooses
-of_cond : {A B : Type 0} (part : A → B) (test : Bool) (one other : A) → part (cond test one other) ≡ cond test (part one) (part other)
-of_cond part true one other = refl
-of_cond part false one other = refl
-
-either_way : {A : Type 0} (test : Bool) (one other : A) → (test ≡ true → one ≡ other) → cond test one other ≡ other
-either_way true one other same = same refl
-either_way false one other same = refl
 
 -- a ruling, check by check
 unless : (P : Answer → Type 0) (fault : Option DayFault) (rest : Answer) → ((f : DayFault) → P (Refused f)) → (fault ≡ None → P rest) → P (refuse fault rest)
@@ -88,15 +88,8 @@ module _ (rules : Meaning) (s : State) (h : History) (lawful : Lawful rules h) (
   unfolding waits
   refused_keeps call fault = record {
     minute = f.minute;
-    listed = f.listed;
-    product = f.product;
-    figures = f.figures;
-    collar = f.collar;
-    halted = f.halted;
+    contracts = f.contracts;
     orders = f.orders;
-    entry = f.entry;
-    until = f.until;
-    waits = f.waits;
   }
 
   -- the terms of a contract when one more was listed
@@ -109,26 +102,20 @@ module _ (rules : Meaning) (s : State) (h : History) (lawful : Lawful rules h) (
 
     -- what all new contracts have in common
     as_new : {B : Type 0} (part : Terms → B) (c : ℕ) → part (just_listed number) ≡ part (just_listed 0) → part (contract_at grown c) ≡ part (contract_at s c)
-    as_new part c common =
-        ap part (at_grown c) ∙ of_cond part (eqb c (suc (length s.contracts))) (just_listed number) (contract_at s c)
-        ∙ either_way (eqb c (suc (length s.contracts))) (part (just_listed number)) (part (contract_at s c)) (λ is.
-        common ∙ sym (ap part (numbered-past (just_listed 0) s.contracts c (omega (arith, eqb-true c (suc (length s.contracts)) is)))))
+    as_new part c common = grind (arith, nat_tests, common, at_grown c, numbered-past (just_listed 0) s.contracts c)
 
     list_keeps : (contract : ℕ) → Kept (Listing number) (Listed contract)
     unfolding waits
     list_keeps contract = record {
       minute = f.minute;
-      listed = length-append s.contracts (just_listed number ∷ []) ∙ omega (arith, f.listed);
-      product = λ c. ap (λ (t : Terms). t.product) (at_grown c)
-          ∙ of_cond (λ (t : Terms). t.product) (eqb c (suc (length s.contracts))) (just_listed number) (contract_at s c)
-          ∙ (λ i. cond (eqb c (suc (f.listed i))) number (f.product c i));
-      figures = λ c. as_new (λ (t : Terms). t.figures) c refl ∙ f.figures c;
-      collar = λ c. as_new (λ (t : Terms). t.collar) c refl ∙ f.collar c;
-      halted = λ c. as_new (λ (t : Terms). t.halted) c refl ∙ f.halted c;
+      contracts = record {
+        listed = length-append s.contracts (just_listed number ∷ []) ∙ omega (arith, f.contracts.listed);
+        product = λ c. grind (arith, nat_tests, at_grown c, f.contracts.listed, f.contracts.product c);
+        figures = λ c. as_new (λ (t : Terms). t.figures) c refl ∙ f.contracts.figures c;
+        collar = λ c. as_new (λ (t : Terms). t.collar) c refl ∙ f.contracts.collar c;
+        halted = λ c. as_new (λ (t : Terms). t.halted) c refl ∙ f.contracts.halted c;
+      };
       orders = f.orders;
-      entry = f.entry;
-      until = f.until;
-      waits = f.waits;
     }
 
   -- the terms of a contract when those of one were changed
@@ -139,109 +126,85 @@ module _ (rules : Meaning) (s : State) (h : History) (lawful : Lawful rules h) (
     at_altered : (c : ℕ) → contract_at altered c ≡ cond (eqb c contract) terms (contract_at s c)
     at_altered c =
         let (least, most) = inside (listed h) contract there in
-        numbered-set (just_listed 0) s.contracts terms contract c least (omega (arith, f.listed))
-
-    as_before : {B : Type 0} (part : Terms → B) (c : ℕ) → part terms ≡ part (contract_at s contract) → part (contract_at altered c) ≡ part (contract_at s c)
-    as_before part c kept =
-        ap part (at_altered c) ∙ of_cond part (eqb c contract) terms (contract_at s c)
-        ∙ either_way (eqb c contract) (part terms) (part (contract_at s c)) (λ is.
-        kept ∙ sym (ap (λ (n : ℕ). part (contract_at s n)) (eqb-true c contract is)))
-
-    -- the part that was changed
-    as_changed : {B : Type 0} (part : Terms → B) (said : B → B) (of_history : ℕ → B) (c : ℕ) → part terms ≡ said (part (contract_at s contract))
-        → ((n : ℕ) → part (contract_at s n) ≡ of_history n)
-        → part (contract_at altered c) ≡ cond (eqb c contract) (said (of_history c)) (of_history c)
-    as_changed part said of_history c is same =
-        ap part (at_altered c) ∙ of_cond part (eqb c contract) terms (contract_at s c) ∙ by_test (eqb c contract) refl
-      where
-        by_test : (test : Bool) → eqb c contract ≡ test → cond test (part terms) (part (contract_at s c)) ≡ cond test (said (of_history c)) (of_history c)
-        by_test true here = is ∙ ap said (ap (λ (n : ℕ). part (contract_at s n)) (sym (eqb-true c contract here)) ∙ same c)
-        by_test false here = same c
+        numbered-set (just_listed 0) s.contracts terms contract c least (omega (arith, f.contracts.listed))
 
     length-kept : length altered.contracts ≡ listed h
-    length-kept = length-set s.contracts (contract - 1) terms ∙ f.listed
+    length-kept = length-set s.contracts (contract - 1) terms ∙ f.contracts.listed
 
   post_keeps : (contract letter value : ℕ) → outside (listed h) contract ≡ false → Kept (Post contract letter value) Done
   unfolding waits
   post_keeps contract letter value there =
       let terms = with_figures (contract_at s contract) (letter_named letter) value in
+      let at = at_altered contract there terms in
       record {
         minute = f.minute;
-        listed = length-kept contract there terms;
-        product = λ c. as_before contract there terms (λ (t : Terms). t.product) c refl ∙ f.product c;
-        figures = λ c. as_changed contract there terms (λ (t : Terms). t.figures) (λ (sheet : Sheet). posted_under (letter_named letter) sheet value) (figures h) c refl f.figures;
-        collar = λ c. as_before contract there terms (λ (t : Terms). t.collar) c refl ∙ f.collar c;
-        halted = λ c. as_before contract there terms (λ (t : Terms). t.halted) c refl ∙ f.halted c;
+        contracts = record {
+          listed = length-kept contract there terms;
+          product = λ c. grind (arith, nat_tests, at c, f.contracts.product c);
+          figures = λ c. grind (arith, nat_tests, at c, f.contracts.figures c);
+          collar = λ c. grind (arith, nat_tests, at c, f.contracts.collar c);
+          halted = λ c. grind (arith, nat_tests, at c, f.contracts.halted c);
+        };
         orders = f.orders;
-        entry = f.entry;
-        until = f.until;
-        waits = f.waits;
       }
 
   collar_keeps : (contract low high : ℕ) → outside (listed h) contract ≡ false → Kept (Collar contract low high) Done
   unfolding waits
   collar_keeps contract low high there =
       let terms = with_collar (contract_at s contract) low high in
+      let at = at_altered contract there terms in
       record {
         minute = f.minute;
-        listed = length-kept contract there terms;
-        product = λ c. as_before contract there terms (λ (t : Terms). t.product) c refl ∙ f.product c;
-        figures = λ c. as_before contract there terms (λ (t : Terms). t.figures) c refl ∙ f.figures c;
-        collar = λ c. as_changed contract there terms (λ (t : Terms). t.collar) (λ _. collar_of low high) (collar h) c refl f.collar;
-        halted = λ c. as_before contract there terms (λ (t : Terms). t.halted) c refl ∙ f.halted c;
+        contracts = record {
+          listed = length-kept contract there terms;
+          product = λ c. grind (arith, nat_tests, at c, f.contracts.product c);
+          figures = λ c. grind (arith, nat_tests, at c, f.contracts.figures c);
+          collar = λ c. grind (arith, nat_tests, at c, f.contracts.collar c);
+          halted = λ c. grind (arith, nat_tests, at c, f.contracts.halted c);
+        };
         orders = f.orders;
-        entry = f.entry;
-        until = f.until;
-        waits = f.waits;
       }
 
   halt_keeps : (contract : ℕ) → outside (listed h) contract ≡ false → Kept (Halt contract) Done
   unfolding waits
   halt_keeps contract there =
       let terms = with_halt (contract_at s contract) true in
+      let at = at_altered contract there terms in
       record {
         minute = f.minute;
-        listed = length-kept contract there terms;
-        product = λ c. as_before contract there terms (λ (t : Terms). t.product) c refl ∙ f.product c;
-        figures = λ c. as_before contract there terms (λ (t : Terms). t.figures) c refl ∙ f.figures c;
-        collar = λ c. as_before contract there terms (λ (t : Terms). t.collar) c refl ∙ f.collar c;
-        halted = λ c. as_changed contract there terms (λ (t : Terms). t.halted) (λ _. true) (halted h) c refl f.halted;
+        contracts = record {
+          listed = length-kept contract there terms;
+          product = λ c. grind (arith, nat_tests, at c, f.contracts.product c);
+          figures = λ c. grind (arith, nat_tests, at c, f.contracts.figures c);
+          collar = λ c. grind (arith, nat_tests, at c, f.contracts.collar c);
+          halted = λ c. grind (arith, nat_tests, at c, f.contracts.halted c);
+        };
         orders = f.orders;
-        entry = f.entry;
-        until = f.until;
-        waits = f.waits;
       }
 
   lift_keeps : (contract : ℕ) → outside (listed h) contract ≡ false → Kept (Lift contract) Done
   unfolding waits
   lift_keeps contract there =
       let terms = with_halt (contract_at s contract) false in
+      let at = at_altered contract there terms in
       record {
         minute = f.minute;
-        listed = length-kept contract there terms;
-        product = λ c. as_before contract there terms (λ (t : Terms). t.product) c refl ∙ f.product c;
-        figures = λ c. as_before contract there terms (λ (t : Terms). t.figures) c refl ∙ f.figures c;
-        collar = λ c. as_before contract there terms (λ (t : Terms). t.collar) c refl ∙ f.collar c;
-        halted = λ c. as_changed contract there terms (λ (t : Terms). t.halted) (λ _. false) (halted h) c refl f.halted;
+        contracts = record {
+          listed = length-kept contract there terms;
+          product = λ c. grind (arith, nat_tests, at c, f.contracts.product c);
+          figures = λ c. grind (arith, nat_tests, at c, f.contracts.figures c);
+          collar = λ c. grind (arith, nat_tests, at c, f.contracts.collar c);
+          halted = λ c. grind (arith, nat_tests, at c, f.contracts.halted c);
+        };
         orders = f.orders;
-        entry = f.entry;
-        until = f.until;
-        waits = f.waits;
       }
 
   ask_keeps : (contract n d price : ℕ) (distance : ℤ) → Kept (Ask contract n d) (Price price distance)
   unfolding waits
   ask_keeps contract n d price distance = record {
     minute = f.minute;
-    listed = f.listed;
-    product = f.product;
-    figures = f.figures;
-    collar = f.collar;
-    halted = f.halted;
+    contracts = f.contracts;
     orders = f.orders;
-    entry = f.entry;
-    until = f.until;
-    waits = f.waits;
   }
 
   -- the orders when the clock comes to a minute
@@ -249,40 +212,16 @@ module _ (rules : Meaning) (s : State) (h : History) (lawful : Lawful rules h) (
     at_clock : (k : ℕ) → order_at (changed rules s (Clock to)) k ≡ clocked to (order_at s k)
     at_clock k = numbered-map no_order (clocked to) refl s.orders k
 
-    kept_by_clock : {B : Type 0} (part : Order → B) (o : Order) → part (marked o Over) ≡ part o → part (clocked to o) ≡ part o
-    kept_by_clock part o kept = of_cond part (is_due to o) (marked o Over) o ∙ either_way (is_due to o) (part (marked o Over)) (part o) (λ _. kept)
-
-    by_clock : (waiting due : Bool) → cond (waiting && due) false waiting ≡ (waiting && not due)
-    by_clock true true = refl
-    by_clock true false = refl
-    by_clock false due = refl
-
-    not_yet : (until : ℕ) → not (leb until to) ≡ ltb to until
-    not_yet until =
-        elim (cases_lt to until) [
-          | inl less ↦ not_from_false _ (lt-leb until to less) ∙ sym (lt-ltb to until less)
-          | inr past ↦ not_from_true _ (le-leb until to past) ∙ sym (le-ltb to until past)
-        ]
-
-    waits-by_clock : (o : Order) → is_waiting (clocked to o).status ≡ (is_waiting o.status && ltb to o.until)
-    waits-by_clock o =
-        of_cond (λ (p : Order). is_waiting p.status) (is_due to o) (marked o Over) o
-        ∙ by_clock (is_waiting o.status) (leb o.until to)
-        ∙ ap (λ (b : Bool). is_waiting o.status && b) (not_yet o.until)
-
     clock_keeps : (count : ℕ) → minute h ≤ to → Kept (Clock to) (Lapsed count)
     clock_keeps count later = record {
       minute = refl;
-      listed = f.listed;
-      product = f.product;
-      figures = f.figures;
-      collar = f.collar;
-      halted = f.halted;
-      orders = length-map s.orders (clocked to) ∙ f.orders;
-      entry = λ k. ap (λ (o : Order). o.entry) (at_clock k) ∙ kept_by_clock (λ (o : Order). o.entry) (order_at s k) refl ∙ f.entry k;
-      until = λ k. ap (λ (o : Order). o.until) (at_clock k) ∙ kept_by_clock (λ (o : Order). o.until) (order_at s k) refl ∙ f.until k;
-      waits = λ k. ap (λ (o : Order). is_waiting o.status) (at_clock k) ∙ waits-by_clock (order_at s k)
-          ∙ (λ i. f.waits k i && ltb to (f.until k i)) ∙ sym (waits-clock rules h to count k later);
+      contracts = f.contracts;
+      orders = record {
+        count = length-map s.orders (clocked to) ∙ f.orders.count;
+        entry = λ k. grind (arith, at_clock k, f.orders.entry k);
+        until = λ k. grind (arith, at_clock k, f.orders.until k);
+        waits = λ k. grind (arith, nat_tests, at_clock k, f.orders.until k, f.orders.waits k, waits-clock rules h to count k later);
+      };
     }
 
   -- the orders when one was marked
@@ -290,42 +229,24 @@ module _ (rules : Meaning) (s : State) (h : History) (lawful : Lawful rules h) (
     at_marked : (k : ℕ) → order_at (with_marked s number status) k ≡ cond (eqb k number) (marked (order_at s number) status) (order_at s k)
     at_marked k =
         let (least, most) = inside (orders h) number there in
-        numbered-set no_order s.orders (marked (order_at s number) status) number k least (omega (arith, f.orders))
-
-    kept_by_mark : {B : Type 0} (part : Order → B) (k : ℕ) → part (marked (order_at s number) status) ≡ part (order_at s number)
-        → part (order_at (with_marked s number status) k) ≡ part (order_at s k)
-    kept_by_mark part k kept =
-        ap part (at_marked k) ∙ of_cond part (eqb k number) (marked (order_at s number) status) (order_at s k)
-        ∙ either_way (eqb k number) (part (marked (order_at s number) status)) (part (order_at s k)) (λ is.
-        kept ∙ sym (ap (λ (n : ℕ). part (order_at s n)) (eqb-true k number is)))
-
-    off : (test waiting : Bool) → cond test false waiting ≡ (waiting && not test)
-    off true true = refl
-    off true false = refl
-    off false true = refl
-    off false false = refl
+        numbered-set no_order s.orders (marked (order_at s number) status) number k least (omega (arith, f.orders.count))
 
     waits-by_mark : is_waiting status ≡ false → (k : ℕ) → is_waiting (order_at (with_marked s number status) k).status ≡ (waits rules h k && not (eqb k number))
-    waits-by_mark done k =
-        ap (λ (o : Order). is_waiting o.status) (at_marked k)
-        ∙ of_cond (λ (o : Order). is_waiting o.status) (eqb k number) (marked (order_at s number) status) (order_at s k)
-        ∙ (λ i. cond (eqb k number) (done i) (f.waits k i)) ∙ off (eqb k number) (waits rules h k)
+    waits-by_mark done k = grind (arith, nat_tests, done, f.orders.waits k, at_marked k)
 
     length_marked : length (with_marked s number status).orders ≡ orders h
-    length_marked = length-set s.orders (number - 1) (marked (order_at s number) status) ∙ f.orders
+    length_marked = length-set s.orders (number - 1) (marked (order_at s number) status) ∙ f.orders.count
 
   withdraw_keeps : (number participant : ℕ) → outside (orders h) number ≡ false → Kept (Withdraw number participant) Done
   withdraw_keeps number participant there = record {
     minute = f.minute;
-    listed = f.listed;
-    product = f.product;
-    figures = f.figures;
-    collar = f.collar;
-    halted = f.halted;
-    orders = length_marked number there Withdrawn;
-    entry = λ k. kept_by_mark number there Withdrawn (λ (o : Order). o.entry) k refl ∙ f.entry k;
-    until = λ k. kept_by_mark number there Withdrawn (λ (o : Order). o.until) k refl ∙ f.until k;
-    waits = λ k. waits-by_mark number there Withdrawn refl k ∙ sym (waits-withdraw rules h number participant k);
+    contracts = f.contracts;
+    orders = record {
+      count = length_marked number there Withdrawn;
+      entry = λ k. grind (arith, nat_tests, at_marked number there Withdrawn k, f.orders.entry k);
+      until = λ k. grind (arith, nat_tests, at_marked number there Withdrawn k, f.orders.until k);
+      waits = λ k. waits-by_mark number there Withdrawn refl k ∙ sym (waits-withdraw rules h number participant k);
+    };
   }
 
   and_not_zero : (k : ℕ) → (waits rules h k && not (eqb k 0)) ≡ waits rules h k
@@ -346,26 +267,14 @@ module _ (rules : Meaning) (s : State) (h : History) (lawful : Lawful rules h) (
     at_joined : (k : ℕ) → order_at joined k ≡ cond (eqb k (suc (orders h))) newest (numbered no_order list k)
     at_joined k = numbered-push no_order list newest k ∙ (λ i. cond (eqb k (suc (long i))) newest (numbered no_order list k))
 
-    part_joined : {B : Type 0} (part : Order → B) (k : ℕ) → part (order_at joined k) ≡ cond (eqb k (suc (orders h))) (part newest) (part (numbered no_order list k))
-    part_joined part k = ap part (at_joined k) ∙ of_cond part (eqb k (suc (orders h))) newest (numbered no_order list k)
-
     abbrev came : Came
     came = record { entry = entry; before = h; partner = p }
 
     waits-joined : ((k : ℕ) → is_waiting (numbered no_order list k).status ≡ (waits rules h k && not (eqb k p)))
         → ((k : ℕ) → k ≡ suc (orders h) → is_waiting status ≡ waits rules later k)
         → (k : ℕ) → is_waiting (order_at joined k).status ≡ waits rules later k
-    waits-joined before new k = part_joined (λ (o : Order). is_waiting o.status) k ∙ placed (cases_order k (suc (orders h)))
-      where
-        placed : (k ≡ suc (orders h)) ⊎ ((k < suc (orders h)) ⊎ (suc (orders h) < k))
-            → cond (eqb k (suc (orders h))) (is_waiting status) (is_waiting (numbered no_order list k).status) ≡ waits rules later k
-        placed (inl is) = cond-true (eqb k (suc (orders h))) _ _ (eq-eqb k (suc (orders h)) is) ∙ new k is
-        placed (inr (inl less)) =
-            cond-false (eqb k (suc (orders h))) _ _ (ne_eqb k (suc (orders h)) (λ is. omega arith)) ∙ before k
-            ∙ sym (waits-enter rules h entry p k (omega arith))
-        placed (inr (inr more)) =
-            cond-false (eqb k (suc (orders h))) _ _ (ne_eqb k (suc (orders h)) (λ is. omega arith)) ∙ before k
-            ∙ and_left (waits rules h k) _ (waits-known rules h k (omega arith)) ∙ sym (waits-known rules later k more)
+    waits-joined before new k =
+        grind (arith, nat_tests, at_joined k, before k, new k, waits-enter rules h entry p k, waits-known rules h k, waits-known rules later k)
 
     joined_keeps : ((k : ℕ) → (numbered no_order list k).entry ≡ (order h k).entry) → ((k : ℕ) → (numbered no_order list k).until ≡ ends rules h k)
         → ((k : ℕ) → is_waiting (numbered no_order list k).status ≡ (waits rules h k && not (eqb k p)))
@@ -373,17 +282,13 @@ module _ (rules : Meaning) (s : State) (h : History) (lawful : Lawful rules h) (
         → Follows rules joined later
     joined_keeps entries untils before new = record {
       minute = f.minute;
-      listed = f.listed;
-      product = f.product;
-      figures = f.figures;
-      collar = f.collar;
-      halted = f.halted;
-      orders = length-append list (newest ∷ []) ∙ omega (arith, long);
-      entry = λ k. part_joined (λ (o : Order). o.entry) k ∙ (λ i. cond (eqb k (suc (orders h))) entry (entries k i))
-          ∙ sym (of_cond (λ (c : Came). c.entry) (eqb k (suc (orders h))) came (order h k));
-      until = λ k. part_joined (λ (o : Order). o.until) k ∙ (λ i. cond (eqb k (suc (orders h))) (hours_end rules h entry) (untils k i))
-          ∙ sym (of_cond (λ (c : Came). hours_end rules c.before c.entry) (eqb k (suc (orders h))) came (order h k));
-      waits = waits-joined before new;
+      contracts = f.contracts;
+      orders = record {
+        count = length-append list (newest ∷ []) ∙ omega (arith, long);
+        entry = λ k. grind (arith, nat_tests, at_joined k, entries k);
+        until = λ k. grind (arith, nat_tests, at_joined k, untils k);
+        waits = waits-joined before new;
+      };
     }
 
   in_time : (hours : Result HoursClass RuleFault) (now : ℕ) → is_some (closing_in hours now) ≡ true → now < unwrap_or (closing_in hours now) 0
@@ -399,15 +304,15 @@ module _ (rules : Meaning) (s : State) (h : History) (lawful : Lawful rules h) (
         → Follows rules (paired s p entry (hours_end rules h entry)) (after h (Enter entry) (Ordered (suc (orders h)) p))
     entered_by p trades (inl zero) =
         subst (λ (q : ℕ). Follows rules (paired s q entry (hours_end rules h entry)) (after h (Enter entry) (Ordered (suc (orders h)) q))) (sym zero)
-        (joined_keeps entry 0 Waiting s.orders f.orders (omega arith) f.entry f.until (λ k. f.waits k ∙ sym (and_not_zero k))
+        (joined_keeps entry 0 Waiting s.orders f.orders.count (omega arith) f.orders.entry f.orders.until (λ k. f.orders.waits k ∙ sym (and_not_zero k))
         (λ k is. sym (waits-new rules h entry k is (unnamed rules h lawful k (omega arith)).free (unnamed rules h lawful k (omega arith)).kept
         (in_time (hours_of rules (product h entry.contract)) (minute h) trades))))
     entered_by p trades (inr (least, most)) =
         let there : outside (orders h) p ≡ false = or_from (eqb p 0) _ (ne_eqb p 0 (λ is. omega arith)) (le-ltb (orders h) p most) in
         subst (λ (t : State). Follows rules t (after h (Enter entry) (Ordered (suc (orders h)) p))) (sym (cond-false (eqb p 0) _ _ (ne_eqb p 0 (λ is. omega arith))))
         (joined_keeps entry p Traded (with_marked s p Traded).orders (length_marked p there Traded) most
-        (λ k. kept_by_mark p there Traded (λ (o : Order). o.entry) k refl ∙ f.entry k)
-        (λ k. kept_by_mark p there Traded (λ (o : Order). o.until) k refl ∙ f.until k)
+        (λ k. grind (arith, nat_tests, at_marked p there Traded k, f.orders.entry k))
+        (λ k. grind (arith, nat_tests, at_marked p there Traded k, f.orders.until k))
         (waits-by_mark p there Traded refl)
         (λ k is. sym (waits-not rules h entry p k least is)))
 

@@ -20,15 +20,19 @@ use Rattle.trading.proofs.Following.{Follows, same_board, keeps}
 follows : (rules : Meaning) (h : History) (s : State) → board_of s ≡ board rules h → Follows rules s h
 follows rules h s shown = record {
   minute = ap (λ (b : Board). b.minute) shown;
-  listed = ap (λ (b : Board). b.listed) shown;
-  product = λ c. ap (λ (b : Board). b.product c) shown;
-  figures = λ c. ap (λ (b : Board). b.figures c) shown;
-  collar = λ c. ap (λ (b : Board). b.collar c) shown;
-  halted = λ c. ap (λ (b : Board). b.halted c) shown;
-  orders = ap (λ (b : Board). b.orders) shown;
-  entry = λ k. ap (λ (b : Board). b.entry k) shown;
-  until = λ k. ap (λ (b : Board). b.until k) shown;
-  waits = λ k. ap (λ (b : Board). b.waits k) shown;
+  contracts = record {
+    listed = ap (λ (b : Board). b.listed) shown;
+    product = λ c. ap (λ (b : Board). b.product c) shown;
+    figures = λ c. ap (λ (b : Board). b.figures c) shown;
+    collar = λ c. ap (λ (b : Board). b.collar c) shown;
+    halted = λ c. ap (λ (b : Board). b.halted c) shown;
+  };
+  orders = record {
+    count = ap (λ (b : Board). b.orders) shown;
+    entry = λ k. ap (λ (b : Board). b.entry k) shown;
+    until = λ k. ap (λ (b : Board). b.until k) shown;
+    waits = λ k. ap (λ (b : Board). b.waits k) shown;
+  };
 }
 
 onward : (rules : Meaning) (h : History) (s : State) (call : Call) → Brings rules h s → Brings rules (after h call (answered rules s call)) (left rules s call)

@@ -1,12 +1,19 @@
 -- A list of calls on a day: what they answer and leave, and the history that they make.
-use Rattle.std.specs.Prelude.{List, [], ◌∷◌}
+use Rattle.std.specs.Prelude.{List, [], ◌∷◌, Ok, Err, Result}
 use Rattle.rulebook.specs.Meaning.{Meaning}
 use Rattle.history.specs.declared.Call.{Call}
 use Rattle.history.specs.declared.Answer.{Answer}
+use Rattle.history.specs.declared.Answer.TheVariants.{Refused}
+use Rattle.history.specs.declared.DayFault.{DayFault}
 use Rattle.history.specs.History.{History}
 use Rattle.history.specs.Law.{Sound}
 use Rattle.day.specs.State.{State}
 use Rattle.day.specs.Following.{answered, left, Brings}
+
+-- an answer, or why there is none
+abbrev pub answer_of : Result Answer DayFault → Answer
+answer_of (Ok answer) = answer
+answer_of (Err fault) = Refused fault
 
 -- the answers to a list of calls, each by the day as the calls before it leave it, and the day that they leave
 abbrev pub all_answered : Meaning → State → List Call → List Answer

@@ -3,9 +3,8 @@ ghost use Rattle.std.specs.Prelude.{◌≡◌, ◌-◌, ◌≤◌, List, [], ◌
 ghost use Rattle.history.specs.declared.Answer.{Answer};
 ghost use Rattle.history.specs.History.{History};
 ghost use Rattle.history.specs.Law.{added};
-ghost use Rattle.day.specs.Calls.{as_listed, as_done, as_lapsed, as_price, as_ordered};
 ghost use Rattle.day.specs.Following.{answered, left, Brings};
-ghost use Rattle.trading.specs.Runs.{all_answered, all_left, Upheld};
+ghost use Rattle.trading.specs.Runs.{answer_of, all_answered, all_left, Upheld};
 ghost use Rattle.day.specs.State.{view};
 
 use day::Day;
@@ -18,16 +17,30 @@ pub fn make<R: Rulebook>(day: &mut Day<R>, call: Call) -> Answer
     ensures after { view day.new ≡ left (R.Rulebook.meaning day.old.book) (view day.old) call }
     ensures book { day.new.book ≡ day.old.book }
 {
+    carry_out(day, call).unwrap_or_else(Answer::Refused)
+}
+
+/// Makes a call: its answer, or why it is refused.
+fn carry_out<R: Rulebook>(day: &mut Day<R>, call: Call) -> Result<Answer, DayFault>
+    ensures answer { answer_of result ≡ answered (R.Rulebook.meaning day.old.book) (view day.old) call }
+    ensures after { view day.new ≡ left (R.Rulebook.meaning day.old.book) (view day.old) call }
+    ensures book { day.new.book ≡ day.old.book }
+{
+    let done = Ok(Answer::Done);
     match call {
-        Call::List(product) => listed(day.list(product)),
-        Call::Post(contract, letter, value) => done(day.post(contract, letter, value)),
-        Call::Collar(contract, low, high) => done(day.collar(contract, low, high)),
-        Call::Clock(to) => lapsed(day.clock(to)),
-        Call::Halt(contract) => done(day.halt(contract)),
-        Call::Lift(contract) => done(day.lift(contract)),
-        Call::Ask(contract, n, d) => priced(day.ask(contract, n, d)),
-        Call::Enter(entry) => ordered(day.enter(entry)),
-        Call::Withdraw(order, participant) => done(day.withdraw(order, participant)),
+        Call::List(product) => day.list(product).map(Answer::Listed),
+        Call::Post(contract, letter, value) => day.post(contract, letter, value).and(done),
+        Call::Collar(contract, low, high) => day.collar(contract, low, high).and(done),
+        Call::Clock(to) => day.clock(to).map(Answer::Lapsed),
+        Call::Halt(contract) => day.halt(contract).and(done),
+        Call::Lift(contract) => day.lift(contract).and(done),
+        Call::Ask(contract, n, d) => day
+            .ask(contract, n, d)
+            .map(|(price, distance)| Answer::Price(price, distance)),
+        Call::Enter(entry) => day
+            .enter(entry)
+            .map(|(order, partner)| Answer::Ordered(order, partner)),
+        Call::Withdraw(order, participant) => day.withdraw(order, participant).and(done),
     }
 }
 
@@ -65,51 +78,5 @@ fn make_all<R: Rulebook>(day: &mut Day<R>, calls: &[Call], answers: &mut Vec<Ans
     for call in calls {
         let answer = make(day, *call);
         answers.push_reserved(answer);
-    }
-}
-
-/// Results as answers.
-fn listed(outcome: Result<u64, DayFault>) -> Answer
-    ensures { result ≡ as_listed outcome }
-{
-    match outcome {
-        Ok(contract) => Answer::Listed(contract),
-        Err(fault) => Answer::Refused(fault),
-    }
-}
-
-fn done(outcome: Result<(), DayFault>) -> Answer
-    ensures { result ≡ as_done outcome }
-{
-    match outcome {
-        Ok(()) => Answer::Done,
-        Err(fault) => Answer::Refused(fault),
-    }
-}
-
-fn lapsed(outcome: Result<u64, DayFault>) -> Answer
-    ensures { result ≡ as_lapsed outcome }
-{
-    match outcome {
-        Ok(count) => Answer::Lapsed(count),
-        Err(fault) => Answer::Refused(fault),
-    }
-}
-
-fn priced(outcome: Result<(u64, i64), DayFault>) -> Answer
-    ensures { result ≡ as_price outcome }
-{
-    match outcome {
-        Ok((price, distance)) => Answer::Price(price, distance),
-        Err(fault) => Answer::Refused(fault),
-    }
-}
-
-fn ordered(outcome: Result<(u64, u64), DayFault>) -> Answer
-    ensures { result ≡ as_ordered outcome }
-{
-    match outcome {
-        Ok((order, partner)) => Answer::Ordered(order, partner),
-        Err(fault) => Answer::Refused(fault),
     }
 }
