@@ -106,7 +106,7 @@ fn figure_letter(letter: char, value: u64) -> Result<Letter, DayFault>
     ensures value { result ≡ letter_for letter value }
     ensures fits { IfOk result (λ letter. posting letter value ≡ Ok tt) }
 {
-    let letter = Letter::from_char(letter).ok_or(FigureFault::UnknownLetter)?;
+    let letter = Letter::try_from(letter)?;
     if value > letter.most() {
         return Err(FigureFault::ValueOverLimit.into());
     }
