@@ -7,7 +7,7 @@ ghost use Rattle.line.specs.Readers.{fields_left};
 use super::fields::{Field, FieldReader, field_count};
 use super::numbers::number;
 use super::words::Word;
-use history::{Call, Entry, Side};
+use history::{Call, Entry};
 use reply::LineFault;
 
 /// A line that has more bytes is refused.
@@ -66,68 +66,34 @@ fn take_letter(fields: &mut FieldReader) -> Result<char, LineFault>
 fn take_call(word: Word, fields: &mut FieldReader) -> Result<Call, LineFault>
     ensures { result ≡ call word (fields_left fields.old) }
 {
-    match word {
-        Word::List => Ok(Call::List(take_number(fields)?)),
-        Word::Post => take_post(fields),
-        Word::Collar => take_collar(fields),
-        Word::Clock => Ok(Call::Clock(take_number(fields)?)),
-        Word::Halt => Ok(Call::Halt(take_number(fields)?)),
-        Word::Lift => Ok(Call::Lift(take_number(fields)?)),
-        Word::Ask => take_ask(fields),
-        Word::Enter(side) => take_entry(side, fields),
-        Word::Withdraw => take_withdrawal(fields),
-    }
-}
-
-fn take_post(fields: &mut FieldReader) -> Result<Call, LineFault>
-    ensures { result ≡ call Word.Post (fields_left fields.old) }
-{
-    let contract = take_number(fields)?;
-    let letter = take_letter(fields)?;
-    let value = take_number(fields)?;
-    Ok(Call::Post(contract, letter, value))
-}
-
-fn take_collar(fields: &mut FieldReader) -> Result<Call, LineFault>
-    ensures { result ≡ call Word.Collar (fields_left fields.old) }
-{
-    let contract = take_number(fields)?;
-    let low = take_number(fields)?;
-    let high = take_number(fields)?;
-    Ok(Call::Collar(contract, low, high))
-}
-
-fn take_ask(fields: &mut FieldReader) -> Result<Call, LineFault>
-    ensures { result ≡ call Word.Ask (fields_left fields.old) }
-{
-    let contract = take_number(fields)?;
-    let numerator = take_number(fields)?;
-    let divisor = take_number(fields)?;
-    Ok(Call::Ask(contract, numerator, divisor))
-}
-
-fn take_entry(side: Side, fields: &mut FieldReader) -> Result<Call, LineFault>
-    ensures { result ≡ call (Word.Enter side) (fields_left fields.old) }
-{
-    let contract = take_number(fields)?;
-    let price = take_number(fields)?;
-    let quantity = take_number(fields)?;
-    let participant = take_number(fields)?;
-    let counterparty = take_number(fields)?;
-    Ok(Call::Enter(Entry {
-        side,
-        contract,
-        price,
-        quantity,
-        participant,
-        counterparty,
-    }))
-}
-
-fn take_withdrawal(fields: &mut FieldReader) -> Result<Call, LineFault>
-    ensures { result ≡ call Word.Withdraw (fields_left fields.old) }
-{
-    let order = take_number(fields)?;
-    let participant = take_number(fields)?;
-    Ok(Call::Withdraw(order, participant))
+    Ok(match word {
+        Word::List => Call::List(take_number(fields)?),
+        Word::Post => Call::Post(
+            take_number(fields)?,
+            take_letter(fields)?,
+            take_number(fields)?,
+        ),
+        Word::Collar => Call::Collar(
+            take_number(fields)?,
+            take_number(fields)?,
+            take_number(fields)?,
+        ),
+        Word::Clock => Call::Clock(take_number(fields)?),
+        Word::Halt => Call::Halt(take_number(fields)?),
+        Word::Lift => Call::Lift(take_number(fields)?),
+        Word::Ask => Call::Ask(
+            take_number(fields)?,
+            take_number(fields)?,
+            take_number(fields)?,
+        ),
+        Word::Enter(side) => Call::Enter(Entry {
+            side,
+            contract: take_number(fields)?,
+            price: take_number(fields)?,
+            quantity: take_number(fields)?,
+            participant: take_number(fields)?,
+            counterparty: take_number(fields)?,
+        }),
+        Word::Withdraw => Call::Withdraw(take_number(fields)?, take_number(fields)?),
+    })
 }
