@@ -41,6 +41,35 @@ def found(pattern, texts=code, flags=re.M):
     return rows
 
 
+def functions():
+    """Every function with a body: where it stands, and its text from `fn` to its last brace."""
+    for name, body in sorted(code.items()):
+        for m in re.finditer(r"^( *)(?:pub(?:\(\w+\))? )?(?:const )?fn \w+", body, re.M):
+            end = re.compile(rf"^{m.group(1)}\}}$", re.M).search(body, m.end())
+            if end and "{" in body[m.start() : end.end()]:
+                yield f"{name}:{body.count(chr(10), 0, m.start()) + 1}", body[m.start() : end.end()]
+
+
+KEPT = set("fn pub let mut if else match for in while return self Self Ok Err Some None true false as".split())
+
+
+def shape(text):
+    """A function's text with other names, numbers and strings all alike."""
+    text = re.sub(r"//.*|^\s*(requires|ensures)[^{]*\{.*\}$", "", text, flags=re.M)
+    text = re.sub(r"b?'[^']'|b?\"[^\"]*\"", "S", text)
+    text = re.sub(r"\b[A-Za-z_]\w*\b", lambda m: m.group(0) if m.group(0) in KEPT else "i", text)
+    return " ".join(re.sub(r"\b\d[\d_]*\b", "n", text).split())
+
+
+def twins():
+    """Groups of functions of one shape whose bodies say more than one call."""
+    groups = defaultdict(list)
+    for where, text in functions():
+        if len(re.findall(r"[;{]|=>", text)) > 1:
+            groups[shape(text)].append(where + " " + re.search(r"fn (\w+)", text).group(1))
+    return [g for g in groups.values() if len(g) > 1]
+
+
 # name, what is looked for
 LOOKED_FOR = [
     ("1a an enum with a variant for a refusal beside those of success", r"^    Refused\(\w+\),"),
@@ -69,6 +98,11 @@ def main():
         print(f"{name}: {len(rows)}")
         if listing:
             print("".join(f"    {r}\n" for r in rows), end="")
+    groups = twins()
+    print(f"2 groups of functions of one shape: {len(groups)}, of {sum(len(g) for g in groups)} functions")
+    if listing:
+        for g in groups:
+            print("    " + "; ".join(g))
     # point 5: the same clause in the contracts of three functions or more
     clauses = defaultdict(set)
     for name, body in code.items():
