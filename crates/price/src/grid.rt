@@ -1,8 +1,11 @@
 //! A grid: a set of whole prices, and what can be asked of it.
-ghost use Rattle.std.specs.Prelude.{◌≡◌, ℕ, Bool};
+ghost use Rattle.std.specs.Prelude.{◌≡◌, ℕ, Bool, cond, Ok, Err};
+ghost use Rattle.price.specs.Makers.{from_to};
+ghost use Rattle.price.specs.declared.faults.PriceFault.TheVariants.{GridOutOfBounds};
 ghost use Rattle.price.specs.Questions.{GreatestAtOrBelow, LeastAtOrAbove};
 ghost use Rattle.price.specs.Sets.{Prices};
 
+use super::faults::PriceFault;
 use super::fraction::Fraction;
 
 /// The last price that any grid holds, in pips.
@@ -25,4 +28,15 @@ pub trait Grid {
         ensures { LeastAtOrAbove (holds self.now) fraction.numerator fraction.divisor result };
 
     ghost within: { (grid : Self) → Prices (holds grid) };
+}
+
+/// `value`, refused where it is not from 1 to `most`.
+pub(crate) fn from_one_to(most: u64, value: u64) -> Result<u64, PriceFault>
+    ensures { result ≡ cond (from_to 1 most value) (Ok value) (Err GridOutOfBounds) }
+{
+    if (1..=most).contains(&value) {
+        Ok(value)
+    } else {
+        Err(PriceFault::GridOutOfBounds)
+    }
 }

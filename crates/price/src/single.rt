@@ -6,7 +6,7 @@ ghost use Rattle.std.proofs.Common.{rules};
 
 use super::faults::PriceFault;
 use super::fraction::Fraction;
-use super::grid::{Grid, LAST_PRICE};
+use super::grid::{Grid, LAST_PRICE, from_one_to};
 
 #[derive(Clone, Copy)]
 pub struct SinglePrice {
@@ -20,11 +20,8 @@ impl SinglePrice {
     pub fn new(price: u64) -> Result<SinglePrice, PriceFault>
         ensures { told (λ grid. grid.price) result ≡ single_price price }
     {
-        if (1..=LAST_PRICE).contains(&price) {
-            Ok(SinglePrice { price })
-        } else {
-            Err(PriceFault::GridOutOfBounds)
-        }
+        let price = from_one_to(LAST_PRICE, price)?;
+        Ok(SinglePrice { price })
     }
 }
 

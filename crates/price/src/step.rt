@@ -6,7 +6,7 @@ ghost use Rattle.std.proofs.Common.{rules};
 
 use super::faults::PriceFault;
 use super::fraction::Fraction;
-use super::grid::{Grid, LAST_PRICE};
+use super::grid::{Grid, LAST_PRICE, from_one_to};
 use super::rounding::{first_multiple, last_multiple};
 
 #[derive(Clone, Copy)]
@@ -23,11 +23,8 @@ impl StepGrid {
     pub fn new(step: u64) -> Result<StepGrid, PriceFault>
         ensures { told (λ grid. grid.step) result ≡ step_grid step }
     {
-        if (1..=Self::MOST_STEP).contains(&step) {
-            Ok(StepGrid { step })
-        } else {
-            Err(PriceFault::GridOutOfBounds)
-        }
+        let step = from_one_to(Self::MOST_STEP, step)?;
+        Ok(StepGrid { step })
     }
 }
 
