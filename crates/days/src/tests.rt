@@ -45,6 +45,10 @@ fn bid(price: u64, quantity: u64, participant: u64, counterparty: u64) -> Call {
     order(Side::Bid, price, quantity, participant, counterparty)
 }
 
+fn refused(fault: DayFault) -> Answer {
+    Answer::Refused(fault)
+}
+
 /// Nikkei 225 futures: one trade, and what is refused around it.
 #[test]
 fn one_trade(rt: HostRuntime) -> Result<(), Fail> {
@@ -56,18 +60,15 @@ fn one_trade(rt: HostRuntime) -> Result<(), Fail> {
             (Call::List(5), Answer::Listed(1)),
             (
                 Call::Ask(1, 5, 1),
-                Answer::Refused(DayFault::Rule(RuleFault::LetterLacking(Letter::U))),
+                refused(DayFault::Rule(RuleFault::LetterLacking(Letter::U))),
             ),
             (Call::Post(1, 'U', 400_000_000), Answer::Done),
             (Call::Clock(500), Answer::Lapsed(0)),
             (offer(390_000_000, 10, 7, 8), Answer::Ordered(1, 0)),
             (bid(390_000_000, 10, 8, 7), Answer::Ordered(2, 1)),
             (Call::Ask(1, 431_999_999, 1), Answer::Price(431_999_999, 0)),
-            (
-                Call::Clock(400),
-                Answer::Refused(DayFault::MinuteBeforePresent),
-            ),
-            (Call::Withdraw(2, 8), Answer::Refused(DayFault::NotWaiting)),
+            (Call::Clock(400), refused(DayFault::MinuteBeforePresent)),
+            (Call::Withdraw(2, 8), refused(DayFault::NotWaiting)),
         ],
     )
 }
@@ -88,13 +89,10 @@ fn pairing(rt: HostRuntime) -> Result<(), Fail> {
             (offer(390_000_000, 10, 7, 8), Answer::Ordered(2, 0)),
             (offer(390_000_000, 10, 9, 8), Answer::Ordered(3, 0)),
             (bid(390_000_000, 10, 8, 7), Answer::Ordered(4, 1)),
-            (
-                Call::Withdraw(2, 8),
-                Answer::Refused(DayFault::AnotherParticipants),
-            ),
+            (Call::Withdraw(2, 8), refused(DayFault::AnotherParticipants)),
             (bid(390_000_000, 11, 8, 7), Answer::Ordered(5, 0)),
             (bid(390_000_000, 10, 8, 7), Answer::Ordered(6, 2)),
-            (Call::Withdraw(1, 7), Answer::Refused(DayFault::NotWaiting)),
+            (Call::Withdraw(1, 7), refused(DayFault::NotWaiting)),
             (Call::Withdraw(3, 9), Answer::Done),
             (bid(390_000_000, 10, 8, 9), Answer::Ordered(7, 0)),
             (offer(390_000_001, 10, 9, 8), Answer::Ordered(8, 0)),
@@ -102,18 +100,12 @@ fn pairing(rt: HostRuntime) -> Result<(), Fail> {
             (offer(390_000_000, 10, 5, 5), Answer::Ordered(10, 9)),
             (Call::Clock(989), Answer::Lapsed(0)),
             (Call::Clock(990), Answer::Lapsed(3)),
-            (Call::Withdraw(7, 8), Answer::Refused(DayFault::NotWaiting)),
-            (
-                offer(390_000_000, 11, 7, 8),
-                Answer::Refused(DayFault::NotOpen),
-            ),
+            (Call::Withdraw(7, 8), refused(DayFault::NotWaiting)),
+            (offer(390_000_000, 11, 7, 8), refused(DayFault::NotOpen)),
             (Call::Clock(1_005), Answer::Lapsed(0)),
             (offer(390_000_000, 11, 7, 8), Answer::Ordered(11, 0)),
             (bid(390_000_000, 11, 8, 7), Answer::Ordered(12, 11)),
-            (
-                Call::Withdraw(13, 8),
-                Answer::Refused(DayFault::NoSuchOrder),
-            ),
+            (Call::Withdraw(13, 8), refused(DayFault::NoSuchOrder)),
         ],
     )
 }
@@ -130,27 +122,27 @@ fn halt_and_collar(rt: HostRuntime) -> Result<(), Fail> {
             (Call::Post(1, 'U', 1_000_000), Answer::Done),
             (Call::Clock(500), Answer::Lapsed(0)),
             (Call::Halt(1), Answer::Done),
-            (Call::Halt(1), Answer::Refused(DayFault::HaltUnchanged)),
-            (bid(1_000_000, 1, 1, 2), Answer::Refused(DayFault::Halted)),
+            (Call::Halt(1), refused(DayFault::HaltUnchanged)),
+            (bid(1_000_000, 1, 1, 2), refused(DayFault::Halted)),
             (Call::Ask(1, 1_005_000, 1), Answer::Price(1_010_000, 5_000)),
             (Call::Lift(1), Answer::Done),
-            (Call::Lift(1), Answer::Refused(DayFault::HaltUnchanged)),
+            (Call::Lift(1), refused(DayFault::HaltUnchanged)),
             (Call::Ask(1, 2_009_999, 2), Answer::Price(1_000_000, -9_999)),
             (Call::Collar(1, 995_000, 1_004_999), Answer::Done),
             (Call::Ask(1, 1_005_000, 1), Answer::Price(1_000_000, -5_000)),
             (
                 bid(1_010_000, 1, 1, 2),
-                Answer::Refused(DayFault::PriceNotAdmissible),
+                refused(DayFault::PriceNotAdmissible),
             ),
             (bid(1_000_000, 1, 1, 2), Answer::Ordered(1, 0)),
             (Call::Collar(1, 1_000_001, 1_009_999), Answer::Done),
             (
                 Call::Ask(1, 1_005_000, 1),
-                Answer::Refused(DayFault::NoAdmissiblePrice),
+                refused(DayFault::NoAdmissiblePrice),
             ),
             (
                 offer(1_000_000, 1, 2, 1),
-                Answer::Refused(DayFault::PriceNotAdmissible),
+                refused(DayFault::PriceNotAdmissible),
             ),
             (Call::Collar(1, 0, 0), Answer::Done),
             (offer(1_000_000, 1, 2, 1), Answer::Ordered(2, 1)),
@@ -168,12 +160,12 @@ fn compression(rt: HostRuntime) -> Result<(), Fail> {
         &[
             (
                 Call::List(3),
-                Answer::Refused(DayFault::Rule(RuleFault::ProductAbsent)),
+                refused(DayFault::Rule(RuleFault::ProductAbsent)),
             ),
             (Call::List(1), Answer::Listed(1)),
             (
                 Call::Ask(1, 1, 1),
-                Answer::Refused(DayFault::Rule(RuleFault::LetterLacking(Letter::K))),
+                refused(DayFault::Rule(RuleFault::LetterLacking(Letter::K))),
             ),
             (Call::Post(1, 'K', 1_000_000), Answer::Done),
             (Call::Clock(700), Answer::Lapsed(0)),
@@ -182,14 +174,11 @@ fn compression(rt: HostRuntime) -> Result<(), Fail> {
             (bid(1_000_000, 5, 2, 1), Answer::Ordered(2, 1)),
             (
                 bid(1_000_001, 5, 2, 1),
-                Answer::Refused(DayFault::PriceNotAdmissible),
+                refused(DayFault::PriceNotAdmissible),
             ),
             (Call::Ask(1, 7, 3), Answer::Price(1_000_000, 2_999_993)),
             (Call::Collar(1, 1, 999_999), Answer::Done),
-            (
-                Call::Ask(1, 7, 3),
-                Answer::Refused(DayFault::NoAdmissiblePrice),
-            ),
+            (Call::Ask(1, 7, 3), refused(DayFault::NoAdmissiblePrice)),
         ],
     )
 }
@@ -207,7 +196,7 @@ fn flexible(rt: HostRuntime) -> Result<(), Fail> {
             (Call::Post(1, 'V', 1_000_000), Answer::Done),
             (
                 Call::Ask(1, 5, 1),
-                Answer::Refused(DayFault::Rule(RuleFault::LetterLacking(Letter::W))),
+                refused(DayFault::Rule(RuleFault::LetterLacking(Letter::W))),
             ),
             (Call::Post(1, 'W', 1_100_000), Answer::Done),
             (Call::Ask(1, 1, 2), Answer::Price(1, 1)),
@@ -216,17 +205,11 @@ fn flexible(rt: HostRuntime) -> Result<(), Fail> {
             (bid(400_000, 10_000, 9_999, 1), Answer::Ordered(1, 0)),
             (
                 bid(400_001, 10_000, 9_999, 1),
-                Answer::Refused(DayFault::PriceNotAdmissible),
+                refused(DayFault::PriceNotAdmissible),
             ),
             (Call::Clock(1_080), Answer::Lapsed(1)),
-            (
-                offer(400_000, 10_000, 1, 9_999),
-                Answer::Refused(DayFault::NotOpen),
-            ),
-            (
-                Call::Withdraw(1, 9_999),
-                Answer::Refused(DayFault::NotWaiting),
-            ),
+            (offer(400_000, 10_000, 1, 9_999), refused(DayFault::NotOpen)),
+            (Call::Withdraw(1, 9_999), refused(DayFault::NotWaiting)),
         ],
     )
 }
@@ -241,92 +224,86 @@ fn order_of_refusals(rt: HostRuntime) -> Result<(), Fail> {
         &[
             (
                 Call::Ask(9, 1, 0),
-                Answer::Refused(DayFault::Price(PriceFault::FractionOutsideLimits)),
+                refused(DayFault::Price(PriceFault::FractionOutsideLimits)),
             ),
             (
                 Call::Post(9, 'Q', 1),
-                Answer::Refused(DayFault::Figure(FigureFault::UnknownLetter)),
+                refused(DayFault::Figure(FigureFault::UnknownLetter)),
             ),
             (
                 Call::Post(9, 'M', 3),
-                Answer::Refused(DayFault::Figure(FigureFault::ValueOverLimit)),
+                refused(DayFault::Figure(FigureFault::ValueOverLimit)),
             ),
             (
                 Call::Post(9, 'B', 100_000_000_001),
-                Answer::Refused(DayFault::Figure(FigureFault::ValueOverLimit)),
+                refused(DayFault::Figure(FigureFault::ValueOverLimit)),
             ),
             (
                 Call::Post(9, 'B', 100_000_000_000),
-                Answer::Refused(DayFault::ContractNotListed),
+                refused(DayFault::ContractNotListed),
             ),
             (
                 Call::List(0),
-                Answer::Refused(DayFault::Rule(RuleFault::ProductAbsent)),
+                refused(DayFault::Rule(RuleFault::ProductAbsent)),
             ),
             (
                 Call::List(23),
-                Answer::Refused(DayFault::Rule(RuleFault::ProductAbsent)),
+                refused(DayFault::Rule(RuleFault::ProductAbsent)),
             ),
-            (
-                Call::Clock(1_801),
-                Answer::Refused(DayFault::MinuteOverLimit),
-            ),
+            (Call::Clock(1_801), refused(DayFault::MinuteOverLimit)),
             (
                 Call::Collar(9, 0, 1),
-                Answer::Refused(DayFault::CollarOutsideLimits),
+                refused(DayFault::CollarOutsideLimits),
             ),
             (
                 Call::Collar(9, 2, 1),
-                Answer::Refused(DayFault::CollarOutsideLimits),
+                refused(DayFault::CollarOutsideLimits),
             ),
             (
                 Call::Collar(9, 1, 220_000_000_001),
-                Answer::Refused(DayFault::CollarOutsideLimits),
+                refused(DayFault::CollarOutsideLimits),
             ),
             (
                 Call::Collar(9, 1, 220_000_000_000),
-                Answer::Refused(DayFault::ContractNotListed),
+                refused(DayFault::ContractNotListed),
             ),
-            (Call::Halt(1), Answer::Refused(DayFault::ContractNotListed)),
-            (Call::Lift(0), Answer::Refused(DayFault::ContractNotListed)),
+            (Call::Halt(1), refused(DayFault::ContractNotListed)),
+            (Call::Lift(0), refused(DayFault::ContractNotListed)),
             (
                 bid(1, 0, 0, 0),
-                Answer::Refused(DayFault::EntryOutsideLimits(EntryField::Quantity)),
+                refused(DayFault::EntryOutsideLimits(EntryField::Quantity)),
             ),
             (
                 bid(1, 10_001, 1, 1),
-                Answer::Refused(DayFault::EntryOutsideLimits(EntryField::Quantity)),
+                refused(DayFault::EntryOutsideLimits(EntryField::Quantity)),
             ),
             (
                 bid(1, 10_000, 10_000, 0),
-                Answer::Refused(DayFault::EntryOutsideLimits(EntryField::Participant)),
+                refused(DayFault::EntryOutsideLimits(EntryField::Participant)),
             ),
             (
                 bid(1, 10_000, 9_999, 10_000),
-                Answer::Refused(DayFault::EntryOutsideLimits(EntryField::Counterparty)),
+                refused(DayFault::EntryOutsideLimits(EntryField::Counterparty)),
             ),
             (
                 bid(1, 10_000, 9_999, 9_999),
-                Answer::Refused(DayFault::ContractNotListed),
+                refused(DayFault::ContractNotListed),
             ),
             (Call::List(1), Answer::Listed(1)),
             (
                 bid(1, 1, 1, 1),
-                Answer::Refused(DayFault::Rule(RuleFault::LetterLacking(Letter::U))),
+                refused(DayFault::Rule(RuleFault::LetterLacking(Letter::U))),
             ),
             (Call::Post(1, 'U', 1_400_150), Answer::Done),
             (Call::Halt(1), Answer::Done),
-            (bid(1, 1, 1, 1), Answer::Refused(DayFault::NotOpen)),
+            (bid(1, 1, 1, 1), refused(DayFault::NotOpen)),
             (Call::Clock(914), Answer::Lapsed(0)),
-            (bid(1, 1, 1, 1), Answer::Refused(DayFault::Halted)),
+            (bid(1, 1, 1, 1), refused(DayFault::Halted)),
             (Call::Lift(1), Answer::Done),
-            (
-                bid(1, 1, 1, 1),
-                Answer::Refused(DayFault::PriceNotAdmissible),
-            ),
+            (bid(1, 1, 1, 1), refused(DayFault::PriceNotAdmissible)),
             (bid(1_393_150, 1, 1, 1), Answer::Ordered(1, 0)),
             (Call::Clock(1_800), Answer::Lapsed(1)),
-            (Call::Withdraw(0, 1), Answer::Refused(DayFault::NoSuchOrder)),
+            (Call::Withdraw(0, 1), refused(DayFault::NoSuchOrder)),
         ],
     )
 }
@@ -355,7 +332,7 @@ fn full_day(rt: HostRuntime) -> Result<(), Fail> {
     assert!(rt; answers.len() == room - 1);
     assert!(rt; run(&mut day, &last[..1], &mut answers).is_ok());
     assert!(rt; answers.last().copied() == Some(Answer::Ordered(256, 1)));
-    assert!(rt; make(&mut day, last[1]) == Answer::Refused(DayFault::OrdersFull));
+    assert!(rt; make(&mut day, last[1]) == refused(DayFault::OrdersFull));
     assert!(rt; day.clock(990) == Ok(254));
     Ok(())
 }
