@@ -26,6 +26,7 @@ impl Table for Flexible {
     }
 }
 
+// Not one `impl` for every table: the trait is another crate's, and a crate may write that only for types of its own.
 impl Rulebook for Flexible {
     type Grid = StepGrid;
 

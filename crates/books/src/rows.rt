@@ -12,7 +12,8 @@ pub enum Centre {
     TheoreticalPrice,
 }
 
-/// A row: what the prices of a product are made of.
+/// A row: what the prices of a product are made of. That its numbers are small is no fact of the type, since every rule
+/// of the exchange is written as a row, with whatever numbers.
 #[derive(Clone, Copy)]
 pub struct Row {
     /// The price unit, in pips.

@@ -36,6 +36,7 @@ impl SingleIssue {
     }
 }
 
+// Not one `impl` for every table: the trait is another crate's, and a crate may write that only for types of its own.
 impl Rulebook for SingleIssue {
     type Grid = StepGrid;
 

@@ -1,4 +1,4 @@
-//! What a day answers.
+//! What a day answers. No `Result`: a history is a list of answers, refusals among them.
 use super::faults::DayFault;
 
 #[derive(Clone, Copy, PartialEq, Eq, Debug)]
@@ -10,7 +10,7 @@ pub enum Answer {
     Lapsed(u64),
     /// A price and its signed distance.
     Price(u64, i64),
-    /// The number of an order, and of its partner, 0 while it waits.
+    /// The number of an order, and of its partner, 0 while it waits: so a rule of the project numbers it.
     Ordered(u64, u64),
     Refused(DayFault),
 }

@@ -93,6 +93,7 @@ impl DayFault {
     }
 }
 
+// By hand: a derived one would not say what it gives.
 impl From<PriceFault> for DayFault {
     ghost from_gives = { λ fault r. r ≡ Price fault };
 

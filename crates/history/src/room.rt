@@ -8,6 +8,7 @@ use std::fmt;
 #[derive(Clone, Copy, PartialEq, Eq, Debug)]
 pub struct TooLittleRoom;
 
+// By hand: a derived one would not say what it writes.
 impl fmt::Display for TooLittleRoom {
     ghost output = { λ _. Some (codes "too little room for the answers") };
 

@@ -49,6 +49,8 @@ impl<'a> FieldReader<'a> {
         FieldReader { line, at: 0 }
     }
 
+    // A call for each kind: a rule of the project asks for fields as tokens of their kind.
+
     /// The next field as the line's command.
     pub(crate) fn next_command(&mut self) -> Option<Field<'a>>
         ensures field { option_map field_read result ≡ option_map a_command (first (fields_left self.old)) }

@@ -25,6 +25,7 @@ impl PriceFault {
     }
 }
 
+// By hand: a derived one would not say what it writes.
 impl fmt::Display for PriceFault {
     ghost output = { λ fault. Some (words fault) };
 

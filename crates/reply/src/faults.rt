@@ -77,6 +77,7 @@ impl LineFault {
     }
 }
 
+// By hand: a derived one would not say what it gives.
 impl From<DayFault> for LineFault {
     ghost from_gives = { λ fault r. r ≡ OfDay fault };
 

@@ -1,4 +1,4 @@
-//! What a line is replied, as bytes.
+//! What a line is replied, as bytes. No `Result`: a refusal is a reply, a line like the others.
 ghost use Rattle.std.specs.Prelude.{◌≡◌, ◌+◌, ◌-◌, ◌≤◌, [], ◌++◌, length, is_ok, if◌then◌else◌, vec_len, vec_capacity, nat_le};
 ghost use Rattle.reply.specs.Replies.{text};
 ghost use Rattle.reply.specs.Written.{line};
@@ -23,7 +23,7 @@ pub enum Reply {
     Lifted,
     /// A price and its signed distance.
     Priced(u64, i64),
-    /// The number of an order, and of its partner, 0 while it waits.
+    /// The number of an order, and of its partner, 0 while it waits, as it is printed.
     Ordered(u64, u64),
     Withdrawn,
     Refused(LineFault),

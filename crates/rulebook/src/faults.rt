@@ -57,6 +57,7 @@ impl RuleFault {
     }
 }
 
+// By hand: a derived one would not say what it writes.
 impl fmt::Display for FigureFault {
     ghost output = { λ fault. Some (figure_words fault) };
 
@@ -70,6 +71,7 @@ impl fmt::Display for FigureFault {
 
 impl Error for FigureFault {}
 
+// By hand: a derived one would not say what it writes.
 impl fmt::Display for RuleFault {
     ghost output = { λ fault. Some (rule_words fault) };
 

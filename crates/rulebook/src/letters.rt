@@ -114,6 +114,7 @@ impl TryFrom<char> for Letter {
     }
 }
 
+// By hand: a derived one would not say what it writes.
 impl fmt::Display for Letter {
     ghost output = { λ letter. Some (letter_text letter) };
 
