@@ -107,6 +107,10 @@ clocked to order = cond (is_due to order) (marked order Over) order
 abbrev pub partner_on : State → Entry → ℕ
 partner_on s entry = first (meets_on (board_of s) entry) (length s.orders)
 
+-- the day at another minute
+abbrev pub at_minute : State → ℕ → State
+at_minute s to = record { minute = to; contracts = s.contracts; orders = s.orders }
+
 -- the day with its orders as the clock leaves them
 abbrev pub with_clocked : State → ℕ → State
 with_clocked s to = record { minute = s.minute; contracts = s.contracts; orders = map (clocked to) s.orders }

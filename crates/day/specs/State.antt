@@ -20,9 +20,8 @@ use Rattle.day.specs.declared.contract.Contract.{Contract}
 use Rattle.day.specs.declared.order.Status.{Status}
 use Rattle.day.specs.declared.order.Status.TheVariants.{Waiting, Traded, Withdrawn, Lapsed}
 use Rattle.day.specs.declared.order.Order.{Order}
+use Rattle.day.specs.declared.ledger.Ledger.{Ledger}
 use Rattle.day.specs.declared.state.Day.{Day}
-use Rattle.rulebook.specs.declared.rulebook.Rulebook
-use Rattle.price.specs.declared.grid.Grid
 
 -- what is said of a contract
 pub record Terms : Type 0 where
@@ -52,8 +51,12 @@ pub record State : Type 0 where
   pub contracts : List Terms
   pub orders : List Order
 
-abbrev pub view : {R G : Type 0} {book : Rulebook.Ghosts R G} {grid : Grid.Ghosts G} → Day R G book grid → State
-view day = record { minute = day.minute; contracts = map terms (vec_items day.contracts); orders = vec_items day.orders }
+-- where a ledger stands
+abbrev pub state_of : Ledger → State
+state_of ledger = record { minute = ledger.minute; contracts = map terms (vec_items ledger.contracts); orders = vec_items ledger.orders }
+
+abbrev pub view : {R G : Type 0} → Day R G → State
+view day = state_of day.ledger
 
 abbrev pub fresh : State
 fresh = record { minute = 0; contracts = []; orders = [] }

@@ -2,7 +2,7 @@
 use super::collar::Collar;
 use rulebook::Figures;
 
-#[derive(Clone, Copy)]
+#[derive(Clone, Copy, PartialEq, Eq, Debug)]
 pub struct Contract {
     pub product: u64,
     pub figures: Figures,

@@ -4,6 +4,7 @@
 mod collar;
 mod contract;
 mod laws;
+mod ledger;
 mod matching;
 mod numbered;
 mod order;

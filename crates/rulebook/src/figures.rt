@@ -5,7 +5,7 @@ ghost use Rattle.rulebook.specs.Limits.{fits};
 mod posting;
 
 /// Thirteen figures, each blank or within the limits of its letter.
-#[derive(Clone, Copy)]
+#[derive(Clone, Copy, PartialEq, Eq, Debug)]
 pub struct Figures {
     values: [Option<u64>; 13],
     ghost within: { (place : ℕ) → fits place (slice_index_or values place None) ≡ true },

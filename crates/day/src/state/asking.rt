@@ -17,7 +17,7 @@ impl<R: Rulebook> Day<R> {
         ensures { as_price result ≡ ruled_on (R.Rulebook.meaning self.now.book) (board_of (view self.now)) (Ask contract n d) }
     {
         let fraction = Fraction::new(n, d)?;
-        let found = self.find(contract)?;
+        let found = self.ledger.find(contract)?;
         asked(&self.book, &found, fraction)
     }
 }

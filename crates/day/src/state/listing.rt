@@ -7,9 +7,10 @@ ghost use Rattle.day.specs.Calls.{as_listed, as_done, letter_for, halting, chang
 ghost use Rattle.day.specs.Following.{left};
 ghost use Rattle.day.specs.State.{view, board_of};
 
-use super::{Day, MOST_CONTRACTS};
+use super::Day;
 use crate::collar::Collar;
 use crate::contract::Contract;
+use crate::ledger::MOST_CONTRACTS;
 use history::DayFault;
 use rulebook::{FigureFault, Figures, Letter, Rulebook};
 
@@ -22,11 +23,11 @@ impl<R: Rulebook> Day<R> {
         ensures book { self.new.book ≡ self.old.book }
     {
         self.book.hours(product)?;
-        let listed = self.listed();
+        let listed = self.ledger.listed();
         if listed >= MOST_CONTRACTS {
             return Err(DayFault::ContractsFull);
         }
-        self.add(Contract {
+        self.ledger.add(Contract {
             product,
             figures: Figures::blank(),
             collar: None,
@@ -43,9 +44,9 @@ impl<R: Rulebook> Day<R> {
         ensures book { self.new.book ≡ self.old.book }
     {
         let letter = figure_letter(letter, value)?;
-        let mut found = self.find(contract)?;
+        let mut found = self.ledger.find(contract)?;
         found.figures.post(letter, value)?;
-        self.put(contract, found);
+        self.ledger.put(contract, found);
         Ok(())
     }
 
@@ -57,9 +58,9 @@ impl<R: Rulebook> Day<R> {
         ensures book { self.new.book ≡ self.old.book }
     {
         let collar = Collar::new(low, high)?;
-        let mut found = self.find(contract)?;
+        let mut found = self.ledger.find(contract)?;
         found.collar = collar;
-        self.put(contract, found);
+        self.ledger.put(contract, found);
         Ok(())
     }
 
@@ -90,12 +91,12 @@ impl<R: Rulebook> Day<R> {
         ensures leaves { view self.new ≡ left (R.Rulebook.meaning self.old.book) (view self.old) (halting contract halted) }
         ensures book { self.new.book ≡ self.old.book }
     {
-        let mut found = self.find(contract)?;
+        let mut found = self.ledger.find(contract)?;
         if found.halted == halted {
             return Err(DayFault::HaltUnchanged);
         }
         found.halted = halted;
-        self.put(contract, found);
+        self.ledger.put(contract, found);
         Ok(())
     }
 }

@@ -1,18 +1,19 @@
 //! The calls of the order book: clock, withdraw and enter.
-ghost use Rattle.std.specs.Prelude.{◌≡◌, suc, ◌<◌, length, is_ok, if◌then◌else◌, vec_len, OnOk};
+ghost use Rattle.std.specs.Prelude.{◌≡◌, suc, ◌<◌, length, is_ok, if◌then◌else◌, OnOk};
 ghost use Rattle.history.specs.declared.Answer.TheVariants.{Ordered};
 ghost use Rattle.history.specs.declared.Call.TheVariants.{Clock, Enter, Withdraw};
 ghost use Rattle.history.specs.declared.DayFault.TheVariants.{EntryOutsideLimits};
 ghost use Rattle.rulebook.specs.Meaning.{hours_of};
 ghost use Rattle.history.specs.Prices.{closing_in};
 ghost use Rattle.history.specs.Rulings.{◌when◌, outside, ruled_on};
-ghost use Rattle.day.specs.Calls.{as_done, as_lapsed, as_ordered, changed, partner_on, paired, entered, after_entry, deny, within_limits, admitted_at, admitted_by_contract, admitted};
+ghost use Rattle.day.specs.Calls.{as_done, as_lapsed, as_ordered, changed, partner_on, entered, after_entry, deny, within_limits, admitted_at, admitted_by_contract, admitted};
 ghost use Rattle.day.specs.Following.{answered, left};
 ghost use Rattle.day.specs.State.{terms, view, board_of};
 
-use super::{Day, LAST_MINUTE, MOST_ORDERS};
+use super::{Day, LAST_MINUTE};
 use crate::contract::Contract;
-use crate::order::{Order, Status};
+use crate::ledger::MOST_ORDERS;
+use crate::order::Status;
 use crate::prices::{admissible_prices, admits};
 use history::{DayFault, Entry, EntryField};
 use rulebook::Rulebook;
@@ -28,12 +29,12 @@ impl<R: Rulebook> Day<R> {
         if to > LAST_MINUTE {
             return Err(DayFault::MinuteOverLimit);
         }
-        if to < self.minute {
+        if to < self.ledger.minute() {
             return Err(DayFault::MinuteBeforePresent);
         }
-        let lapsed = self.due(to);
-        self.lapse(to);
-        self.minute = to;
+        let lapsed = self.ledger.due(to);
+        self.ledger.lapse(to);
+        self.ledger.set_minute(to);
         Ok(lapsed)
     }
 
@@ -44,14 +45,14 @@ impl<R: Rulebook> Day<R> {
         ensures leaves { view self.new ≡ left (R.Rulebook.meaning self.old.book) (view self.old) (Withdraw number participant) }
         ensures book { self.new.book ≡ self.old.book }
     {
-        let order = self.order(number)?;
+        let order = self.ledger.order(number)?;
         if participant != order.entry.participant {
             return Err(DayFault::AnotherParticipants);
         }
         if !order.waits() {
             return Err(DayFault::NotWaiting);
         }
-        self.mark(number, Status::Withdrawn);
+        self.ledger.mark(number, Status::Withdrawn);
         Ok(())
     }
 
@@ -65,38 +66,15 @@ impl<R: Rulebook> Day<R> {
         ensures book { self.new.book ≡ self.old.book }
     {
         let until = self.admit(&entry)?;
-        Ok(self.pair(entry, until))
-    }
-
-    /// Books an order that passed every check.
-    fn pair(&mut self, entry: Entry, until: u64) -> (u64, u64)
-        requires { vec_len self.old.orders < 256 }
-        ensures value { result ≡ (suc (length (view self.old).orders), partner_on (view self.old) entry) }
-        ensures after { view self.new ≡ paired (view self.old) (partner_on (view self.old) entry) entry until }
-        ensures book { self.new.book ≡ self.old.book }
-    {
-        let number = self.accepted() as u64 + 1;
-        let partner = self.partner(&entry);
-        let status = match partner {
-            Some(partner) => {
-                self.mark(partner, Status::Traded);
-                Status::Traded
-            }
-            None => Status::Waiting,
-        };
-        self.accept(Order {
-            entry,
-            until,
-            status,
-        });
-        (number, partner.unwrap_or(0))
+        Ok(self.ledger.pair(entry, until))
     }
 
     /// When the hours of a contract that hold the present minute end, `None` while it is closed.
     fn open_until(&self, contract: &Contract) -> Option<u64>
-        ensures { result ≡ closing_in (hours_of (R.Rulebook.meaning self.now.book) contract.now.product) self.now.minute }
+        ensures { result ≡ closing_in (hours_of (R.Rulebook.meaning self.now.book) contract.now.product) (view self.now).minute }
     {
-        self.book.hours(contract.product).ok()?.closing(self.minute)
+        let class = self.book.hours(contract.product).ok()?;
+        class.closing(self.ledger.minute())
     }
 
     /// The checks of an entry against its contract.
@@ -118,18 +96,18 @@ impl<R: Rulebook> Day<R> {
     fn admit_by_contract(&self, entry: &Entry) -> Result<u64, DayFault>
         ensures { result ≡ admitted_by_contract (R.Rulebook.meaning self.now.book) (view self.now) entry.now }
     {
-        let found = self.find(entry.contract)?;
+        let found = self.ledger.find(entry.contract)?;
         self.admit_at(&found, entry)
     }
 
     /// All checks of an entry: the end of the hours in which it comes.
     fn admit(&self, entry: &Entry) -> Result<u64, DayFault>
         ensures value { result ≡ admitted (R.Rulebook.meaning self.now.book) (view self.now) entry.now }
-        ensures room { OnOk result (vec_len self.now.orders < 256) }
+        ensures room { OnOk result (length (view self.now).orders < 256) }
     {
         check_limits(entry)?;
         let until = self.admit_by_contract(entry)?;
-        if self.accepted() >= MOST_ORDERS {
+        if self.ledger.accepted() >= MOST_ORDERS {
             return Err(DayFault::OrdersFull);
         }
         Ok(until)

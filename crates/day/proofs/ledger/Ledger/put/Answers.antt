@@ -1,0 +1,6 @@
+use Rattle.std.proofs.Common.{rules}
+use Rattle.std.proofs.lemmas.List.{map-set}
+use Rattle.day.proofs.ledger.Ledger.put.Goals as goal
+
+pub returns : goal.returns
+returns c = search (rules, map-set)
