@@ -8,13 +8,10 @@ use Rattle.rulebook.specs.Sheets.{Sheet, sheet, all_blank}
 use Rattle.history.specs.declared.DayFault.{DayFault}
 use Rattle.history.specs.declared.DayFault.TheVariants.{Rule, CollarOutsideLimits}
 use Rattle.history.specs.History.{collar_of}
-use Rattle.price.specs.Closest.{closest}
-use Rattle.history.specs.declared.Answer.{Answer}
-use Rattle.history.specs.declared.Answer.TheVariants.{Refused}
-use Rattle.history.specs.Prices.{inside_collar, admissible_in}
+use Rattle.history.specs.Prices.{inside_collar}
 use Rattle.history.specs.Orders.{no_entry}
 use Rattle.history.specs.Board.{Board}
-use Rattle.history.specs.Rulings.{priced, no_collar}
+use Rattle.history.specs.Rulings.{no_collar}
 use Rattle.day.specs.declared.collar.Collar.{Collar}
 use Rattle.day.specs.declared.contract.Contract.{Contract}
 use Rattle.day.specs.declared.order.Status.{Status}
@@ -128,8 +125,3 @@ band_for rules contract = prices_of rules contract.product contract.figures
 -- the admissible prices of a contract, or why it has none
 abbrev pub admissible_set : Meaning → Terms → Result PriceSet DayFault
 admissible_set rules contract = in_collar contract.collar (band_for rules contract)
-
--- the answer to a broker who asks for n / d, by what the rulebook says
-abbrev pub asked_in : Result PricesInBand RuleFault → Option (ℕ × ℕ) → ℕ → ℕ → Answer
-asked_in (Ok prices) collar n d = priced (closest (admissible_in (Ok prices) collar) n d)
-asked_in (Err fault) collar n d = Refused (Rule fault)

@@ -1,6 +1,6 @@
 -- What is held of an input that comes in pieces.
 use Rattle.std.proofs.Common.{◌≡◌, ℕ, zero, suc, ◌+◌, ◌-◌, ◌≤◌, Bool, true, false, eqb, List, [], ◌∷◌, ◌++◌, length, take, drop, sym, refl, ap, ◌∙◌, arith}
-use Rattle.std.proofs.lemmas.List.{take_all, take_rest, drop-drop, length-drop}
+use Rattle.std.proofs.lemmas.List.{take_all, drop-drop, length-drop}
 use Rattle.line.specs.Lines.{ended, unended}
 use Rattle.session.proofs.Lines.{lines_short, both_parts}
 
@@ -48,10 +48,6 @@ module _ (input : List ℕ) (at : ℕ) (inside : at ≤ length input) where
 
   pub left_less : length (unended (drop at input)) ≤ length input - at
   left_less = let short = shorter (drop at input) in let long = length-drop at input in omega arith
-
--- what is held as the code cuts it
-pub held_is : (bytes input : List ℕ) (at : ℕ) → bytes ≡ input → take (length bytes - at) (drop at bytes) ≡ drop at input
-held_is bytes input at same = take_rest bytes at ∙ ap (drop at) same
 
 -- a piece more of what is read
 pub read_on : (p rest : List ℕ) (room : ℕ) → take room p ++ take (room - length (take room p)) rest ≡ take room (p ++ rest)
