@@ -1,5 +1,6 @@
 -- The lines of a text, one by one.
-use Rattle.std.proofs.Common.{◌≡◌, ℕ, ◌<◌, ◌≤◌, Bool, true, false, eqb, List, [], ◌∷◌, length, take, sym, refl, ap, ◌∙◌, arith}
+use Rattle.std.proofs.Common.{◌≡◌, ℕ, ◌<◌, ◌≤◌, Bool, true, false, eqb, List, [], ◌∷◌, length, take, drop, ◌+◌, sym, refl, ap, ◌∙◌, arith}
+use Rattle.std.proofs.lemmas.List.{drop-drop}
 use Rattle.line.specs.Lines.{before_first, in_front, lines, past_first, to_first, ended, where_none, unended}
 use Rattle.line.proofs.Cuts.{take_one_more, drop_one_more}
 
@@ -48,3 +49,7 @@ unended_cut (b ∷ bytes) lt = by_byte (eqb b 10) refl (λ h. unended_cut bytes 
         let h = rw e at lt in
         let some = ended_cut bytes (omega arith) in
         rw e (ap unended (drop_one_more b bytes n) ∙ ih (omega arith) ∙ sym (ap (λ ls. where_none ls (b ∷ bytes) (unended bytes)) some))
+
+-- what is left after a step on from a place
+pub left_on : {X : Type 0} (xs : List X) (at step : ℕ) → drop (at + step) xs ≡ drop step (drop at xs)
+left_on xs at step = sym (drop-drop _ _ xs)

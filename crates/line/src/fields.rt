@@ -83,6 +83,7 @@ impl<'a> Iterator for FieldReader<'a> {
 
     ghost remaining = { item_count fields_left };
 
+    #[tactic(auto, using(crate::proofs::Splitting::fields_cut, std::proofs::lemmas::List::take_rest))]
     fn next(&mut self) -> Option<Part<'a>> {
         let rest = self.line.get(self.at..)?;
         let bytes = &rest[..before_first(rest, b' ')];

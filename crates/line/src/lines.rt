@@ -24,6 +24,7 @@ impl<'a> LineReader<'a> {
     }
 
     /// The next line, without the byte 10 that ends it, or `None` where no line is left.
+    #[tactic(auto, using(crate::proofs::Reading::lines_cut, crate::proofs::Reading::left_on))]
     pub fn next_line(&mut self) -> Option<&'a [u8]>
         ensures line { option_map (λ x. x.now) result ≡ first (lines_left self.old) }
         ensures rest { lines_left self.new ≡ others (lines_left self.old) }
@@ -33,13 +34,14 @@ impl<'a> LineReader<'a> {
         if rest.is_empty() {
             return None;
         }
-        let line = &rest[..before_first(rest, b'\n')];
-        self.at += line.len() + 1;
-        Some(line)
+        let n = before_first(rest, b'\n');
+        self.at += n + 1;
+        Some(&rest[..n])
     }
 
     /// The next line that a byte 10 ends, or `None` where none is left: what follows the last
     /// byte 10 stays unread.
+    #[tactic(auto, using(crate::proofs::Reading::none_ended, crate::proofs::Reading::ended_cut, crate::proofs::Reading::unended_cut, crate::proofs::Reading::left_on))]
     pub fn next_ended(&mut self) -> Option<&'a [u8]>
         ensures line { option_map (λ x. x.now) result ≡ first (ended (unread self.old)) }
         ensures rest { ended (unread self.new) ≡ others (ended (unread self.old)) }
