@@ -1,6 +1,6 @@
 //! The flexible book.
 ghost use Rattle.std.specs.Prelude.{◌≡◌, true, refl};
-ghost use Rattle.books.specs.Books.{flexible, row_in};
+ghost use Rattle.books.specs.Books.{flexible};
 ghost use Rattle.books.specs.Exchange.{flexible_rule};
 ghost use Rattle.books.specs.Bounds.{flexible_small};
 ghost use Rattle.books.specs.Soundness.{flexible_sound};

@@ -1,5 +1,5 @@
 //! What a row makes of the figures of a contract.
-ghost use Rattle.std.specs.Prelude.{◌≡◌, ℕ, ◌+◌, ◌*◌, ◌≤◌, ◌&&◌, IfSome, Some, Ok};
+ghost use Rattle.std.specs.Prelude.{◌≡◌, ◌+◌, ◌*◌, ◌≤◌, ◌&&◌, IfSome, IfErr, OnOk, Some, None, Ok};
 ghost use Rattle.price.specs.Sets.{last_price, multiples};
 ghost use Rattle.rulebook.specs.Meaning.{first, lacking, in_band, prices_of_product};
 ghost use Rattle.rulebook.specs.Sheets.{sheet, is_blank};
@@ -45,6 +45,14 @@ impl Row {
         ensures { result ≡ lacking (needs self.now) (sheet figures.now) }
     {
         self.first_lacking(figures, &Letter::ALL)
+    }
+
+    /// The first letter that is lacking, as what refuses.
+    fn check_figures(&self, figures: &Figures) -> Result<(), Letter>
+        ensures ok { OnOk result (lacking (needs self.now) (sheet figures.now) ≡ None) }
+        ensures err { IfErr result (λ letter. lacking (needs self.now) (sheet figures.now) ≡ Some letter) }
+    {
+        self.lacking_letter(figures).map_or(Ok(()), Err)
     }
 
     /// The price that the row's prices are measured from.
@@ -94,10 +102,9 @@ impl Row {
         requires { Small self.now }
         ensures { result ≡ entry_centre (Ok self.now) (sheet figures.now) }
     {
-        match self.lacking_letter(figures) {
-            Some(letter) => Err(RuleFault::LetterLacking(letter)),
-            None => Ok(self.centre_price(figures)),
-        }
+        self.check_figures(figures)
+            .map_err(RuleFault::LetterLacking)?;
+        Ok(self.centre_price(figures))
     }
 
     /// The prices of a row, or the first letter that it lacks.
@@ -105,10 +112,9 @@ impl Row {
         requires { Small self.now }
         ensures { in_band (λ grid. multiples grid.step) result ≡ prices_of_product (Some (row_product self.now)) (sheet figures.now) }
     {
-        match self.lacking_letter(figures) {
-            Some(letter) => Err(RuleFault::LetterLacking(letter)),
-            None => Ok(self.posted_prices(figures)),
-        }
+        self.check_figures(figures)
+            .map_err(RuleFault::LetterLacking)?;
+        Ok(self.posted_prices(figures))
     }
 }
 

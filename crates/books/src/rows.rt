@@ -2,7 +2,7 @@
 use rulebook::{HoursClass, Letter};
 
 /// What a price is measured from.
-#[derive(Clone, Copy)]
+#[derive(Clone, Copy, PartialEq, Eq, Debug)]
 pub enum Centre {
     /// The mid-price, the last price or the reference price, as the choice says.
     TradingPrice,
@@ -14,7 +14,7 @@ pub enum Centre {
 
 /// A row: what the prices of a product are made of. That its numbers are small is no fact of the type, since every rule
 /// of the exchange is written as a row, with whatever numbers.
-#[derive(Clone, Copy)]
+#[derive(Clone, Copy, PartialEq, Eq, Debug)]
 pub struct Row {
     /// The price unit, in pips.
     pub unit: u64,

@@ -8,7 +8,7 @@ use super::faults::PriceFault;
 use super::fraction::Fraction;
 use super::grid::{Grid, LAST_PRICE, from_one_to};
 
-#[derive(Clone, Copy)]
+#[derive(Clone, Copy, PartialEq, Eq, Debug)]
 pub struct SinglePrice {
     price: u64,
     ghost positive: { 1 ≤ price },

@@ -9,7 +9,7 @@ use super::fraction::Fraction;
 use super::grid::{Grid, LAST_PRICE, from_one_to};
 use super::rounding::{first_multiple, last_multiple};
 
-#[derive(Clone, Copy)]
+#[derive(Clone, Copy, PartialEq, Eq, Debug)]
 pub struct StepGrid {
     step: u64,
     ghost positive: { 1 ≤ step },

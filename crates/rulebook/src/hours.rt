@@ -2,6 +2,8 @@
 ghost use Rattle.std.specs.Prelude.{◌≡◌, [], ◌∷◌};
 ghost use Rattle.rulebook.specs.Hours.{ending, closing};
 
+use std::ops::Range;
+
 #[derive(Clone, Copy, PartialEq, Eq, Debug)]
 pub enum HoursClass {
     A,
@@ -17,18 +19,18 @@ impl HoursClass {
         ensures { result ≡ closing self minute }
     {
         match self {
-            HoursClass::A => until(915, 500, minute).or(until(1800, 925, minute)),
-            HoursClass::B => until(990, 500, minute).or(until(1800, 1005, minute)),
-            HoursClass::C => until(990, 500, minute).or(until(1140, 1005, minute)),
-            HoursClass::D => until(990, 500, minute),
-            HoursClass::E => until(990, 500, minute).or(until(1080, 1005, minute)),
+            HoursClass::A => until(500..915, minute).or(until(925..1800, minute)),
+            HoursClass::B => until(500..990, minute).or(until(1005..1800, minute)),
+            HoursClass::C => until(500..990, minute).or(until(1005..1140, minute)),
+            HoursClass::D => until(500..990, minute),
+            HoursClass::E => until(500..990, minute).or(until(1005..1080, minute)),
         }
     }
 }
 
-/// `last` if `minute` lies from `first` to just before it.
-fn until(last: u64, first: u64, minute: u64) -> Option<u64>
-    ensures { result ≡ ending ((first, last) ∷ []) minute }
+/// The end of the hours if they hold `minute`.
+fn until(hours: Range<u64>, minute: u64) -> Option<u64>
+    ensures { result ≡ ending ((hours.start, hours.end) ∷ []) minute }
 {
-    (first..last).contains(&minute).then_some(last)
+    hours.contains(&minute).then_some(hours.end)
 }
