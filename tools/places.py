@@ -3,7 +3,7 @@
 
     python3 tools/places.py [COMMIT] [--list]
 
-of the working tree, or of a commit. Tests (src/tests.rt) are counted apart.
+of the working tree, or of a commit. Tests (src/tests.rt) are left out.
 """
 import re
 import subprocess

@@ -1,6 +1,6 @@
 //! The lowest and the highest admissible price of every row, worked out from the percentages by hand.
 use books::{Compression, Flexible, SingleIssue};
-use price::{Fraction, Grid, Limit, nearest};
+use price::{Fraction, Grid, nearest};
 use rulebook::{FigureFault, Figures, HoursClass, Letter, RuleFault, Rulebook};
 use std::process::Abort;
 use std::test::Fail;
@@ -251,7 +251,7 @@ fn posted(values: &[(Letter, u64)]) -> Result<Figures, FigureFault> {
 
 fn check_edges<R: Rulebook>(rt: &impl Abort, book: &R, row: &Edges) -> Result<(), Fail> {
     let band = book.band(row.product, &posted(row.figures)?)?;
-    let prices = Limit::new(band.grid, band.low, band.high)?;
+    let prices = band.limit()?;
     assert!(rt; prices.has(row.lowest) && prices.has(row.highest));
     let (lowest, _) = nearest(&prices, Fraction::new(0, 1)?).ok_or(1u8)?;
     let (highest, _) = nearest(&prices, Fraction::new(1_000_000_000_000_000, 1)?).ok_or(2u8)?;

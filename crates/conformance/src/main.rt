@@ -72,11 +72,12 @@ fn agrees(rt: &HostRuntime, name: &str) -> anyhow::Result<bool> {
 }
 
 fn run(rt: &HostRuntime) -> anyhow::Result<()> {
-    let agreements: Vec<bool> = SESSIONS
-        .iter()
-        .map(|name| agrees(rt, name))
-        .try_collect(rt.alloc())?;
-    let agreed = agreements.iter().filter(|agrees| **agrees).count();
+    let mut agreed: usize = 0;
+    for name in SESSIONS {
+        if agrees(rt, name)? {
+            agreed = agreed.saturating_add(1);
+        }
+    }
     let count = SESSIONS.len();
     println!(rt; "{agreed} of {count} sessions agree")?;
     if agreed < count {

@@ -1,4 +1,5 @@
 //! The ledger of a day: the minute, the contracts and the orders, by their numbers from 1.
+ghost use Rattle.day.specs.declared.ledger.TheConstants.{MOST_CONTRACTS, MOST_ORDERS};
 ghost use Rattle.std.specs.Prelude.{◌≡◌, suc, ◌<◌, ◌≤◌, false, length, vec_len, vec_capacity, IfSome, IfOk};
 
 use super::contract::Contract;
@@ -8,8 +9,10 @@ use super::order::{Order, Status};
 use history::{DayFault, Entry};
 use std::alloc::{AllocError, Global};
 
+/// So many contracts can be listed.
 pub(crate) const MOST_CONTRACTS: usize = 32;
 
+/// So many orders can be accepted.
 pub(crate) const MOST_ORDERS: usize = 256;
 
 /// All the memory that it can need is there from its making on.
@@ -18,10 +21,10 @@ pub(crate) struct Ledger {
     minute: u64,
     contracts: Vec<Contract>,
     orders: Vec<Order>,
-    ghost contracts_room: { 32 ≤ vec_capacity contracts },
-    ghost contracts_few: { vec_len contracts ≤ 32 },
-    ghost orders_room: { 256 ≤ vec_capacity orders },
-    ghost orders_few: { vec_len orders ≤ 256 },
+    ghost contracts_room: { MOST_CONTRACTS ≤ vec_capacity contracts },
+    ghost contracts_few: { vec_len contracts ≤ MOST_CONTRACTS },
+    ghost orders_room: { MOST_ORDERS ≤ vec_capacity orders },
+    ghost orders_few: { vec_len orders ≤ MOST_ORDERS },
 }
 
 impl Ledger {
@@ -63,7 +66,7 @@ impl Ledger {
     pub(crate) fn listed(&self) -> usize
         ensures { result ≡ length (state_of self.now).contracts }
     {
-        self.contracts.as_slice().len()
+        self.contracts.len()
     }
 
     /// The contract of a number.
@@ -75,7 +78,7 @@ impl Ledger {
 
     /// One contract more, for which there is room.
     pub(crate) fn add(&mut self, contract: Contract)
-        requires { length (state_of self.old).contracts < 32 }
+        requires { length (state_of self.old).contracts < MOST_CONTRACTS }
         ensures { state_of self.new ≡ with_one_more (state_of self.old) (terms contract) }
     {
         self.contracts.push_reserved(contract);
@@ -93,7 +96,7 @@ impl Ledger {
     pub(crate) fn accepted(&self) -> usize
         ensures { result ≡ length (state_of self.now).orders }
     {
-        self.orders.as_slice().len()
+        self.orders.len()
     }
 
     /// The order of a number.
@@ -128,7 +131,7 @@ impl Ledger {
     /// Books an order for which there is room: it trades with its partner or waits. Its number and its partner's, 0
     /// while it waits.
     pub(crate) fn pair(&mut self, entry: Entry, until: u64) -> (u64, u64)
-        requires { length (state_of self.old).orders < 256 }
+        requires { length (state_of self.old).orders < MOST_ORDERS }
         ensures value { result ≡ (suc (length (state_of self.old).orders), partner_on (state_of self.old) entry) }
         ensures after { state_of self.new ≡ paired (state_of self.old) (partner_on (state_of self.old) entry) entry until }
     {
@@ -159,7 +162,7 @@ impl Ledger {
 
     /// One order more, for which there is room.
     fn accept(&mut self, order: Order)
-        requires { length (state_of self.old).orders < 256 }
+        requires { length (state_of self.old).orders < MOST_ORDERS }
         ensures { state_of self.new ≡ with_order (state_of self.old) order }
     {
         self.orders.push_reserved(order);

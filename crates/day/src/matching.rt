@@ -14,7 +14,7 @@ pub(crate) fn earliest_countering(orders: &[Order], incoming: &Entry) -> Option<
     ensures value { unwrap_or result 0 ≡ first (meets_at orders.now incoming.now) (length orders.now) }
     ensures known { IfSome result (λ number. outside (length orders.now) number ≡ false) }
 {
-    // A rule of the project asks for this search as a loop with an index.
+    // A loop with an index is asked for here: docs/DECISIONS.md, "Forms".
     for i in 0..orders.len() {
         if orders[i].meets(incoming) {
             return Some(i as u64 + 1);

@@ -15,10 +15,9 @@ fn collar_limits(contract: &Contract) -> (u64, u64)
     ensures value { result ≡ collar_limits (terms contract.now).collar }
     ensures bound { (result.0 ≤ last_end) × (result.1 ≤ last_end) }
 {
-    match contract.collar {
-        Some(collar) => collar.ends(),
-        None => (1000, LAST_END),
-    }
+    contract
+        .collar
+        .map_or((1000, LAST_END), |collar| collar.ends())
 }
 
 /// The prices on the rulebook's grid, inside its band and inside the collar.
@@ -30,8 +29,7 @@ pub(crate) fn admissible_prices<R: Rulebook>(
 {
     let band = book.band(contract.product, &contract.figures)?;
     let (low, high) = collar_limits(contract);
-    let prices = Limit::new(band.grid, band.low, band.high)?;
-    Ok(Limit::new(prices, low, high)?)
+    Ok(Limit::new(band.limit()?, low, high)?)
 }
 
 /// Whether a price is one of the grid's: the nearest to itself, at distance 0.

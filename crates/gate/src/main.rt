@@ -35,8 +35,7 @@ fn answer(
     let low = band.low;
     let high = band.high;
     println!(rt; "Centre {centre}, band {low} to {high} thousandths of a pip.")?;
-    let prices = Limit::new(band.grid, low, high)?;
-    quote_each(rt, &prices, asked)
+    quote_each(rt, &band.limit()?, asked)
 }
 
 /// Quotes the nearest of `prices` to each of `asked`.
@@ -65,9 +64,8 @@ fn answer_in_collar(
             return Ok(());
         }
     };
-    let in_band = Limit::new(band.grid, band.low, band.high)?;
     let (low, high) = (1000 * u64::from(lowest), 1000 * u64::from(highest));
-    let prices = Limit::new(in_band, low, high)?;
+    let prices = Limit::new(band.limit()?, low, high)?;
     quote_each(rt, &prices, asked)
 }
 

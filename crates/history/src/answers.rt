@@ -10,7 +10,7 @@ pub enum Answer {
     Lapsed(u64),
     /// A price and its signed distance.
     Price(u64, i64),
-    /// The number of an order, and of its partner, 0 while it waits: so a rule of the project numbers it.
+    /// The number of an order, and of its partner, 0 while it waits: docs/DECISIONS.md, "Forms".
     Ordered(u64, u64),
     Refused(DayFault),
 }

@@ -18,7 +18,7 @@ pub(crate) struct Part<'a> {
 }
 
 impl Part<'_> {
-    /// Told where the part is not what it should be.
+    /// The fault of a part that is not what it should be.
     pub(crate) fn fault(&self) -> LineFault
         ensures { result ≡ LineFault.BadField self.now.position }
     {
@@ -49,7 +49,7 @@ impl<'a> FieldReader<'a> {
         FieldReader { line, at: 0 }
     }
 
-    // A call for each kind: a rule of the project asks for fields as tokens of their kind.
+    // A call for each kind, as fields are tokens of their kind: docs/DECISIONS.md, "Forms".
 
     /// The next field as the line's command.
     pub(crate) fn next_command(&mut self) -> Option<Field<'a>>

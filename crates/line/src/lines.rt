@@ -72,6 +72,7 @@ impl<'a> Iterator for LineReader<'a> {
 
     ghost remaining = { item_count lines_left };
 
+    /// The same as `next_line`, which stays as a call of its own.
     fn next(&mut self) -> Option<&'a [u8]> {
         self.next_line()
     }

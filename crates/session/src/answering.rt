@@ -60,7 +60,7 @@ pub(crate) fn answer_ended<'a, R: Rulebook>(
     ensures book { day.new.book ≡ day.old.book }
 {
     let mut reader = LineReader::new(input);
-    // A `for` would take an iterator of its own, over the ended lines alone, and what it leaves is asked for after it.
+    // No `for`: the reader iterates over all lines, and what is left is asked for after the loop.
     while let Some(line) = reader.next_ended() {
         answer_one(day, line, out);
     }

@@ -26,21 +26,24 @@ fn carry_out<R: Rulebook>(day: &mut Day<R>, call: Call) -> Result<Answer, DayFau
     ensures after { view day.new ≡ left (R.Rulebook.meaning day.old.book) (view day.old) call }
     ensures book { day.new.book ≡ day.old.book }
 {
-    let done = Ok(Answer::Done);
     match call {
         Call::List(product) => day.list(product).map(Answer::Listed),
-        Call::Post(contract, letter, value) => day.post(contract, letter, value).and(done),
-        Call::Collar(contract, low, high) => day.collar(contract, low, high).and(done),
+        Call::Post(contract, letter, value) => day
+            .post(contract, letter, value)
+            .map(|()| Answer::Done),
+        Call::Collar(contract, low, high) => day.collar(contract, low, high).map(|()| Answer::Done),
         Call::Clock(to) => day.clock(to).map(Answer::Lapsed),
-        Call::Halt(contract) => day.halt(contract).and(done),
-        Call::Lift(contract) => day.lift(contract).and(done),
+        Call::Halt(contract) => day.halt(contract).map(|()| Answer::Done),
+        Call::Lift(contract) => day.lift(contract).map(|()| Answer::Done),
         Call::Ask(contract, n, d) => day
             .ask(contract, n, d)
             .map(|(price, distance)| Answer::Price(price, distance)),
         Call::Enter(entry) => day
             .enter(entry)
             .map(|(order, partner)| Answer::Ordered(order, partner)),
-        Call::Withdraw(order, participant) => day.withdraw(order, participant).and(done),
+        Call::Withdraw(order, participant) => day
+            .withdraw(order, participant)
+            .map(|()| Answer::Done),
     }
 }
 

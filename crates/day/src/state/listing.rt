@@ -45,7 +45,7 @@ impl<R: Rulebook> Day<R> {
     {
         let letter = figure_letter(letter, value)?;
         let mut found = self.ledger.find(contract)?;
-        found.figures.post(letter, value)?;
+        found.figures.post(letter, value).unwrap();
         self.ledger.put(contract, found);
         Ok(())
     }
