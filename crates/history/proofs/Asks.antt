@@ -58,7 +58,7 @@ chosen low high false before old new = old
 one_more : (rules : Meaning) (h : History) (contract : ℕ) (call : Call) (answer : Answer) → Step rules h call answer
     → Collared (collar h contract) → Collared (collar (after h call answer) contract)
 one_more rules h contract call answer (refused _ fault) old = old
-one_more rules h contract call answer (lists product next) old = old
+one_more rules h contract call answer (lists product next there) old = old
 one_more rules h contract call answer (posts other letter value) old = old
 one_more rules h contract call answer (collars other low high within) old =
     chosen low high (eqb contract other) (collar h contract) old (new_collar low high (eqb low 0 && eqb high 0) refl within)

@@ -75,7 +75,7 @@ module _ (rules : Meaning) (h : History) where
   pub same_order : (call : Call) (answer : Answer) → Step rules h call answer → (k : ℕ) → k ≤ orders h
       → order (after h call answer) k ≡ order h k
   same_order call answer (refused _ fault) k old = refl
-  same_order call answer (lists product contract) k old = refl
+  same_order call answer (lists product contract there) k old = refl
   same_order call answer (posts contract letter value) k old = refl
   same_order call answer (collars contract low high within) k old = refl
   same_order call answer (clocks to count later) k old = refl
@@ -88,7 +88,7 @@ module _ (rules : Meaning) (h : History) where
 
   pub minute_on : (call : Call) (answer : Answer) → Step rules h call answer → minute h ≤ minute (after h call answer)
   minute_on call answer (refused _ fault) = le_refl (minute h)
-  minute_on call answer (lists product contract) = le_refl (minute h)
+  minute_on call answer (lists product contract there) = le_refl (minute h)
   minute_on call answer (posts contract letter value) = le_refl (minute h)
   minute_on call answer (collars contract low high within) = le_refl (minute h)
   minute_on call answer (clocks to count later) = later
@@ -101,7 +101,7 @@ module _ (rules : Meaning) (h : History) where
   pub new_order : (call : Call) (answer : Answer) → Step rules h call answer → (k : ℕ) → orders h < k
       → k ≤ orders (after h call answer) → New rules h call answer k
   new_order call answer (refused _ fault) k more most = absurd (omega arith)
-  new_order call answer (lists product contract) k more most = absurd (omega arith)
+  new_order call answer (lists product contract there) k more most = absurd (omega arith)
   new_order call answer (posts contract letter value) k more most = absurd (omega arith)
   new_order call answer (collars contract low high within) k more most = absurd (omega arith)
   new_order call answer (clocks to count later) k more most = absurd (omega arith)

@@ -5,3 +5,4 @@ pub mod Asks
 pub mod Whole
 pub mod Next
 pub mod Collarless
+pub mod Listed

@@ -79,7 +79,7 @@ most rules h entry =
 still_unnamed : (rules : Meaning) (h : History) → ((k : ℕ) → orders h < k → Unnamed h k) → (call : Call) (answer : Answer) → Step rules h call answer
     → (k : ℕ) → orders (after h call answer) < k → Unnamed (after h call answer) k
 still_unnamed rules h before call answer (refused _ fault) k more = let u = before k more in record { free = u.free; kept = u.kept }
-still_unnamed rules h before call answer (lists product contract) k more = let u = before k more in record { free = u.free; kept = u.kept }
+still_unnamed rules h before call answer (lists product contract there) k more = let u = before k more in record { free = u.free; kept = u.kept }
 still_unnamed rules h before call answer (posts contract letter value) k more = let u = before k more in record { free = u.free; kept = u.kept }
 still_unnamed rules h before call answer (collars contract low high within) k more = let u = before k more in record { free = u.free; kept = u.kept }
 still_unnamed rules h before call answer (clocks to count later) k more = let u = before k more in record { free = u.free; kept = u.kept }

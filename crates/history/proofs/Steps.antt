@@ -27,7 +27,7 @@ pub record Taken (rules : Meaning) (h : History) (entry : Entry) : Type 0 where
 
 pub data Step (rules : Meaning) (h : History) : Call → Answer → Type 0 where
   refused : (call : Call) (fault : DayFault) → Step rules h call (Refused fault)
-  lists : (product contract : ℕ) → Step rules h (List product) (Listed contract)
+  lists : (product contract : ℕ) → by_the_book (hours_of rules product) ≡ None → Step rules h (List product) (Listed contract)
   posts : (contract letter value : ℕ) → Step rules h (Post contract letter value) Done
   collars : (contract low high : ℕ) → no_collar low high ≡ false → Step rules h (Collar contract low high) Done
   clocks : (to count : ℕ) → minute h ≤ to → Step rules h (Clock to) (Lapsed count)
@@ -67,7 +67,7 @@ module _ (rules : Meaning) (h : History) where
   view (List product) =
       let last = refuse (ContractsFull when leb 32 b.listed) (Listed (suc b.listed)) in
       or_else (List product) (by_the_book (hours_of rules product)) last
-      (λ _. unless_when _ ContractsFull (leb 32 b.listed) (Listed (suc b.listed)) (λ _. lists product _))
+      (λ there. unless_when _ ContractsFull (leb 32 b.listed) (Listed (suc b.listed)) (λ _. lists product _ there))
   view (Post contract letter value) =
       let last = refuse (ContractNotListed when unlisted b contract) Done in
       or_else (Post contract letter value) (figure_fault (letter_named letter) value) last

@@ -1,15 +1,16 @@
 -- The law of the day: what holds of every lawful history, under every rulebook.
-use Rattle.std.specs.Prelude.{◌≡◌, ℕ, ◌<◌, true, false, ◌⊎◌, List, [], ◌∷◌, None, Ok, ◌≢◌}
+use Rattle.std.specs.Prelude.{◌≡◌, ℕ, ◌<◌, true, false, ◌⊎◌, List, [], ◌∷◌, Some, None, Ok, Err, ◌≢◌}
 use Rattle.price.specs.Sets.{◌among◌, between}
 use Rattle.price.specs.Questions.{signed_distance, Worse}
-use Rattle.rulebook.specs.Meaning.{Meaning, PricesInBand, prices_of, Sound as Bounded}
+use Rattle.rulebook.specs.declared.RuleFault.TheVariants.{ProductAbsent}
+use Rattle.rulebook.specs.Meaning.{Meaning, Product, PricesInBand, lacking, unless_lacking, hours_of, prices_of, Sound as Bounded}
 use Rattle.rulebook.specs.Sheets.{Sheet, WithinLimits}
 use Rattle.history.specs.declared.calls.Call.{Call}
 use Rattle.history.specs.declared.calls.Call.TheVariants.{Ask, Withdraw}
 use Rattle.history.specs.declared.answers.Answer.{Answer}
 use Rattle.history.specs.declared.answers.Answer.TheVariants.{Done, Price, Refused}
 use Rattle.history.specs.declared.faults.DayFault.TheVariants.{NoAdmissiblePrice}
-use Rattle.history.specs.History.{History, opened, after, minute}
+use Rattle.history.specs.History.{History, opened, after, minute, product, figures}
 use Rattle.history.specs.Prices.{inside_collar, band_now, admissible, is_open, is_stopped, is_fraction}
 use Rattle.history.specs.Orders.{order, known, waits, ends, counters, opposite}
 use Rattle.history.specs.Board.{board}
@@ -86,3 +87,20 @@ NoCollarTakesNothing =
     (rules : Meaning) → Bounded rules → (number : ℕ) (figures : Sheet) (prices : PricesInBand) → WithinLimits figures
     → prices_of rules number figures ≡ Ok prices → (price : ℕ)
     → inside_collar None (between prices.low prices.high prices.on_grid) price ≡ between prices.low prices.high prices.on_grid price
+
+-- the rulebook has the product that a contract was listed as
+pub record HasProduct (rules : Meaning) (h : History) (contract : ℕ) : Type 0 where
+  pub its : Product
+  pub known : rules.product (product h contract) ≡ Some its
+  pub hours : hours_of rules (product h contract) ≡ Ok its.hours
+  -- what it says of the prices: a band where no needed letter is blank, else the first such letter
+  pub prices : band_now rules h contract ≡ unless_lacking (lacking its.needs (figures h contract)) (its.prices (figures h contract))
+  -- and never that the product is absent
+  pub never_absent : band_now rules h contract ≢ Err ProductAbsent
+
+-- in every lawful day, under every rulebook, a contract that is listed has a product: so what the rulebook says of its prices
+-- is a band, or the first letter that is lacking; never that the product is absent
+abbrev pub ListedContractsHaveProducts : Type 0
+ListedContractsHaveProducts =
+    (rules : Meaning) (h : History) → Lawful rules h → (contract : ℕ) → unlisted (board rules h) contract ≡ false
+    → HasProduct rules h contract

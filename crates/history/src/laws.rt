@@ -1,5 +1,5 @@
 //! The law of the day, on the contracts of functions that do nothing else.
-ghost use Rattle.history.specs.Law.{Law, NoCollarTakesNothing};
+ghost use Rattle.history.specs.Law.{Law, ListedContractsHaveProducts, NoCollarTakesNothing};
 
 /// Every day whose calls were answered as the rules fix is sound, under every rulebook.
 #[tactic(auto, using(crate::proofs::Whole::law))]
@@ -13,6 +13,15 @@ pub fn every_lawful_day_is_sound() -> bool
 #[tactic(auto, using(crate::proofs::Collarless::no_collar_takes_nothing))]
 pub fn no_collar_takes_nothing() -> bool
     ensures { NoCollarTakesNothing }
+{
+    true
+}
+
+/// In every lawful day, under every rulebook, a contract that is listed has a product: what the rulebook
+/// says of its prices is a band or the first letter that is lacking, never that the product is absent.
+#[tactic(auto, using(crate::proofs::Listed::listed_contracts_have_products))]
+pub fn listed_contracts_have_products() -> bool
+    ensures { ListedContractsHaveProducts }
 {
     true
 }

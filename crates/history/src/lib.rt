@@ -10,5 +10,7 @@ mod room;
 pub use answers::Answer;
 pub use calls::{Call, Entry, Side};
 pub use faults::{DayFault, EntryField};
-pub use laws::{every_lawful_day_is_sound, no_collar_takes_nothing};
+pub use laws::{
+    every_lawful_day_is_sound, listed_contracts_have_products, no_collar_takes_nothing,
+};
 pub use room::TooLittleRoom;
