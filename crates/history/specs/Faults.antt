@@ -1,11 +1,13 @@
 -- The number under which each fault of a day is refused, and its place.
-use Rattle.std.specs.Prelude.{ℕ}
+use Rattle.std.specs.Prelude.{ℕ, Some, None, Option}
 use Rattle.price.specs.Faults.{number as price_number}
 use Rattle.rulebook.specs.Faults.{figure_number, rule_number, rule_place}
 use Rattle.history.specs.declared.faults.EntryField.{EntryField}
 use Rattle.history.specs.declared.faults.EntryField.TheVariants.{Quantity, Participant, Counterparty}
 use Rattle.history.specs.declared.faults.DayFault.{DayFault}
 use Rattle.history.specs.declared.faults.DayFault.TheVariants.{Price, Figure, Rule, MinuteOverLimit, CollarOutsideLimits, EntryOutsideLimits, ContractNotListed, ContractsFull, MinuteBeforePresent, HaltUnchanged, NoAdmissiblePrice, NotOpen, Halted, PriceNotAdmissible, OrdersFull, NoSuchOrder, AnotherParticipants, NotWaiting}
+use Rattle.history.specs.declared.answers.Answer.{Answer}
+use Rattle.history.specs.declared.answers.Answer.TheVariants.{Listed, Done, Lapsed, Price as Priced, Ordered, Refused}
 
 abbrev pub number : DayFault → ℕ
 number (Price fault) = price_number fault
@@ -51,3 +53,12 @@ place OrdersFull = 0
 place NoSuchOrder = 0
 place AnotherParticipants = 0
 place NotWaiting = 0
+
+-- of an answer: the number and the place of the refusal, none where the call was accepted
+abbrev pub refusal : Answer → Option (ℕ × ℕ)
+refusal (Listed contract) = None
+refusal Done = None
+refusal (Lapsed count) = None
+refusal (Priced price distance) = None
+refusal (Ordered order partner) = None
+refusal (Refused fault) = Some (number fault, place fault)
