@@ -1,5 +1,5 @@
 //! The compression book.
-ghost use Rattle.std.specs.Prelude.{◌≡◌, false, refl};
+ghost use Rattle.std.specs.Prelude.{◌≡◌};
 ghost use Rattle.books.specs.Books.{compression};
 ghost use Rattle.books.specs.Soundness.{compression_sound};
 
@@ -14,13 +14,13 @@ impl Rulebook for Compression {
 
     const HALT_BINDS: bool = false;
 
-    ghost HALT_BINDS = { false };
-
     ghost meaning = { λ _. compression };
 
-    ghost binds = { λ _. refl };
-
     ghost sound = { λ book. compression_sound };
+
+    fn is_bound_by_halts(&self) -> bool {
+        Self::HALT_BINDS
+    }
 
     fn hours(&self, product: u64) -> Result<HoursClass, RuleFault> {
         match product {

@@ -1,5 +1,5 @@
 //! The flexible book.
-ghost use Rattle.std.specs.Prelude.{◌≡◌, true, refl};
+ghost use Rattle.std.specs.Prelude.{◌≡◌};
 ghost use Rattle.books.specs.Books.{flexible};
 ghost use Rattle.books.specs.Exchange.{flexible_rule};
 ghost use Rattle.books.specs.Bounds.{flexible_small};
@@ -32,13 +32,13 @@ impl Rulebook for Flexible {
 
     const HALT_BINDS: bool = true;
 
-    ghost HALT_BINDS = { true };
-
     ghost meaning = { λ _. flexible };
 
-    ghost binds = { λ _. refl };
-
     ghost sound = { λ book. flexible_sound };
+
+    fn is_bound_by_halts(&self) -> bool {
+        Self::HALT_BINDS
+    }
 
     fn hours(&self, product: u64) -> Result<HoursClass, RuleFault> {
         Ok(row_of::<Self>(product)?.hours)

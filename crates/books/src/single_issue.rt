@@ -1,5 +1,5 @@
 //! The single-issue book.
-ghost use Rattle.std.specs.Prelude.{◌≡◌, true, refl};
+ghost use Rattle.std.specs.Prelude.{◌≡◌};
 ghost use Rattle.rulebook.specs.Sheets.{sheet};
 ghost use Rattle.books.specs.Books.{single_issue, row_in, entry_centre};
 ghost use Rattle.books.specs.Exchange.{single_issue_rule};
@@ -42,13 +42,13 @@ impl Rulebook for SingleIssue {
 
     const HALT_BINDS: bool = true;
 
-    ghost HALT_BINDS = { true };
-
     ghost meaning = { λ _. single_issue };
 
-    ghost binds = { λ _. refl };
-
     ghost sound = { λ book. single_issue_sound };
+
+    fn is_bound_by_halts(&self) -> bool {
+        Self::HALT_BINDS
+    }
 
     fn hours(&self, product: u64) -> Result<HoursClass, RuleFault> {
         Ok(row_of::<Self>(product)?.hours)

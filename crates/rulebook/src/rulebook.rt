@@ -1,5 +1,5 @@
 //! What a rulebook answers.
-ghost use Rattle.std.specs.Prelude.{◌≡◌, Bool};
+ghost use Rattle.std.specs.Prelude.{◌≡◌};
 ghost use Rattle.rulebook.specs.Meaning.{Meaning, Sound, hours_of, prices_of, in_band};
 ghost use Rattle.rulebook.specs.Sheets.{sheet};
 
@@ -15,16 +15,11 @@ pub trait Rulebook {
     /// Whether a halt binds the products of this book.
     const HALT_BINDS: bool;
 
-    ghost HALT_BINDS: { Bool };
-
     ghost meaning: { Self → Meaning };
 
-    /// Whether a halt binds the products of this book.
+    /// The constant, where its value is to be known to a contract.
     fn is_bound_by_halts(&self) -> bool
-        ensures { result ≡ (meaning self.now).halt_binds }
-    {
-        Self::HALT_BINDS
-    }
+        ensures { result ≡ (meaning self.now).halt_binds };
 
     /// The hours of a product.
     fn hours(&self, product: u64) -> Result<HoursClass, RuleFault>
@@ -33,8 +28,6 @@ pub trait Rulebook {
     /// The prices that a product has with these figures.
     fn band(&self, product: u64, figures: &Figures) -> Result<Band<Self::Grid>, RuleFault>
         ensures { in_band Self.Grid.Grid.holds result ≡ prices_of (meaning self.now) product (sheet figures.now) };
-
-    ghost binds: { (book : Self) → HALT_BINDS ≡ (meaning book).halt_binds };
 
     ghost sound: { (book : Self) → Sound (meaning book) };
 }
