@@ -29,20 +29,7 @@ pub fn answer_line<R: Rulebook>(
     if LONGEST_REPLY > out.capacity() - out.len() {
         return Err(TooLittleRoom);
     }
-    answer_one(day, line, out);
-    Ok(())
-}
-
-/// Answers a line, for whose reply there is room.
-fn answer_one<R: Rulebook>(day: &mut Day<R>, line: &[u8], out: &mut Vec<u8>)
-    requires { vec_len out.old + 44 ≤ vec_capacity out.old }
-    ensures bytes { out.new.items ≡ out.old.items ++ text (reply (R.Rulebook.meaning day.old.book) (view day.old) line.now) }
-    ensures within { vec_len out.new ≤ vec_len out.old + 44 }
-    ensures capacity { vec_capacity out.new ≡ vec_capacity out.old }
-    ensures after { view day.new ≡ left_by_line (R.Rulebook.meaning day.old.book) (view day.old) line.now }
-    ensures book { day.new.book ≡ day.old.book }
-{
-    reply_to(day, line).write_to(out).unwrap();
+    reply_to(day, line).write_to(out)
 }
 
 /// Answers the lines of an input that a byte 10 ends, for whose replies there is room, and hands back what follows them.
@@ -62,7 +49,7 @@ pub(crate) fn answer_ended<'a, R: Rulebook>(
     let mut reader = LineReader::new(input);
     // No `for`: the reader iterates over all lines, and what is left is asked for after the loop.
     while let Some(line) = reader.next_ended() {
-        answer_one(day, line, out);
+        answer_line(day, line, out).unwrap();
     }
     reader.rest()
 }
@@ -76,7 +63,7 @@ pub(crate) fn answer_lines<R: Rulebook>(day: &mut Day<R>, input: &[u8], out: &mu
     ensures book { day.new.book ≡ day.old.book }
 {
     for line in LineReader::new(input) {
-        answer_one(day, line, out);
+        answer_line(day, line, out).unwrap();
     }
 }
 
