@@ -1,12 +1,10 @@
 //! What a line is replied, as bytes. No `Result`: a refusal is a reply, a line like the others.
-ghost use Rattle.std.specs.Prelude.{◌≡◌, ◌+◌, ◌-◌, ◌≤◌, [], ◌++◌, length, is_ok, if◌then◌else◌, vec_len, vec_capacity, nat_le};
+ghost use Rattle.std.specs.Prelude.{◌≡◌, ◌+◌, ◌-◌, ◌<◌, ◌≤◌, [], ◌++◌, length, codes, is_ok, if◌then◌else◌, vec_len, vec_capacity, nat_le};
 ghost use Rattle.reply.specs.Replies.{text};
-ghost use Rattle.reply.specs.Written.{line};
 
 use super::faults::LineFault;
-use arrayvec::ArrayVec;
 use history::TooLittleRoom;
-use itoa::Buffer;
+use itoa::{Buffer, Integer};
 
 /// No reply has more bytes: a letter and a blank, 20 bytes, a blank, 20 bytes, and byte 10.
 pub const LONGEST_REPLY: usize = 44;
@@ -41,48 +39,64 @@ impl Reply {
         if LONGEST_REPLY > out.capacity() - out.len() {
             return Err(TooLittleRoom);
         }
-        for byte in self.text().as_slice() {
-            out.push_reserved(*byte);
-        }
+        self.write_unended(out);
+        out.push_reserved(b'\n');
         Ok(())
     }
 
-    /// The bytes of the reply.
-    fn text(self) -> ArrayVec<u8, LONGEST_REPLY>
-        ensures { result.items ≡ text self }
+    /// Adds the reply without the byte 10 that closes it, where there is room for every reply.
+    fn write_unended(self, out: &mut Vec<u8>)
+        requires { vec_len out.old + 44 ≤ vec_capacity out.old }
+        ensures items { out.new.items ++ codes "\n" ≡ out.old.items ++ text self }
+        ensures within { vec_len out.new < vec_len out.old + 44 }
+        ensures capacity { vec_capacity out.new ≡ vec_capacity out.old }
     {
         match self {
-            Reply::Listed(contract) => line(b"L", &[contract.into()]),
-            Reply::Posted => line(b"P", &[]),
-            Reply::Collared => line(b"K", &[]),
-            Reply::Lapsed(orders) => line(b"C", &[orders.into()]),
-            Reply::Halted => line(b"H", &[]),
-            Reply::Lifted => line(b"G", &[]),
-            Reply::Priced(price, distance) => line(b"A", &[price.into(), distance.into()]),
-            Reply::Ordered(order, partner) => line(b"E", &[order.into(), partner.into()]),
-            Reply::Withdrawn => line(b"W", &[]),
+            Reply::Listed(contract) => write_number(out, b"L", contract),
+            Reply::Posted => write_bytes(out, b"P"),
+            Reply::Collared => write_bytes(out, b"K"),
+            Reply::Lapsed(orders) => write_number(out, b"C", orders),
+            Reply::Halted => write_bytes(out, b"H"),
+            Reply::Lifted => write_bytes(out, b"G"),
+            Reply::Priced(price, distance) => {
+                write_number(out, b"A", price);
+                write_number(out, b"", distance);
+            }
+            Reply::Ordered(order, partner) => {
+                write_number(out, b"E", order);
+                write_number(out, b"", partner);
+            }
+            Reply::Withdrawn => write_bytes(out, b"W"),
             Reply::Refused(fault) => {
                 let head = [b'X', b' ', fault.layer().letter()];
-                line(&head, &[fault.number().into(), fault.place().into()])
+                write_number(out, &head, fault.number() as u8);
+                write_number(out, b"", fault.place());
             }
         }
     }
 }
 
-/// A head, each number after a blank, and byte 10. 128 bits hold every `u64` and every `i64`.
-fn line(head: &[u8], numbers: &[i128]) -> ArrayVec<u8, LONGEST_REPLY>
-    requires { length (line head.now numbers.now) ≤ 44 }
-    ensures { result.items ≡ line head.now numbers.now }
+/// Adds a head, a blank and a number, for which there is room.
+fn write_number<I: Integer>(out: &mut Vec<u8>, head: &[u8], number: I)
+    requires { vec_len out.old + length head.now + I.Integer.MAX_STR_LEN < vec_capacity out.old }
+    ensures items { out.new.items ≡ out.old.items ++ head.now ++ codes " " ++ I.Integer.text number }
+    ensures within { vec_len out.new ≤ vec_len out.old + length head.now + I.Integer.MAX_STR_LEN + 1 }
+    ensures capacity { vec_capacity out.new ≡ vec_capacity out.old }
 {
-    let mut written = ArrayVec::new();
-    written.try_extend_from_slice(head).unwrap();
-    for number in numbers {
-        written.push(b' ');
-        let mut digits = Buffer::new();
-        written
-            .try_extend_from_slice(digits.format(*number).as_bytes())
-            .unwrap();
+    let mut digits = Buffer::new();
+    write_bytes(out, head);
+    out.push_reserved(b' ');
+    write_bytes(out, digits.format(number).as_bytes());
+}
+
+/// Adds bytes for which there is room.
+fn write_bytes(out: &mut Vec<u8>, bytes: &[u8])
+    requires { vec_len out.old + length bytes.now ≤ vec_capacity out.old }
+    ensures items { out.new.items ≡ out.old.items ++ bytes.now }
+    ensures len { vec_len out.new ≡ vec_len out.old + length bytes.now }
+    ensures capacity { vec_capacity out.new ≡ vec_capacity out.old }
+{
+    for byte in bytes {
+        out.push_reserved(*byte);
     }
-    written.push(b'\n');
-    written
 }
