@@ -34,10 +34,12 @@ impl Row {
     fn first_lacking(&self, figures: &Figures, letters: &[Letter]) -> Option<Letter>
         ensures { result ≡ first (λ letter. needs self.now letter && is_blank (sheet figures.now letter)) letters.now }
     {
+        // A copy, so that the row is not read again for each letter.
+        let row = *self;
         letters
             .iter()
             .copied()
-            .find(|letter| self.lacks(figures, *letter))
+            .find(|letter| row.lacks(figures, *letter))
     }
 
     /// The first letter by rank that the row needs and that is blank.
