@@ -41,7 +41,7 @@ unfolding first
 first_is test zero = inl (record { zero_is = refl; fails = λ k l h. absurd (omega arith) })
 first_is test (suc n) = step test n (first test n) (first_is test n)
 
--- for a loop that looks from the first on: one more that fails, and the one that passes
+-- for a loop that looks from the first on: one more that fails, the one that passes, and tests that agree
 pub first_on : (test : ℕ → Bool) (n : ℕ) → first test n ≡ 0 → test (suc n) ≡ false → first test (suc n) ≡ 0
 unfolding first
 first_on test n z f = cond-true (eqb (first test n) 0) _ _ (eq-eqb _ 0 z) ∙ cond-false (test (suc n)) (suc n) 0 f
@@ -62,6 +62,14 @@ first_there test n (suc m) z t u =
       | inr more ↦ (let e : m ≡ n = omega arith in rw e (first_at test n z t))
     ]
 
+pub first_same : (f g : ℕ → Bool) (n : ℕ) → ((k : ℕ) → 1 ≤ k → k ≤ n → f k ≡ g k) → first f n ≡ first g n
+unfolding first
+first_same f g zero e = refl
+first_same f g (suc n) e =
+    let i = first_same f g n (λ k l u. e k l (omega arith)) in
+    let s = e (suc n) (omega arith) (omega arith) in
+    rw (i, s) refl
+
 pub many_on : (test : ℕ → Bool) (n : ℕ) → test (suc n) ≡ false → how_many test (suc n) ≡ how_many test n
 unfolding how_many
 many_on test n f = cond-false (test (suc n)) _ _ f
@@ -69,3 +77,11 @@ many_on test n f = cond-false (test (suc n)) _ _ f
 pub many_at : (test : ℕ → Bool) (n : ℕ) → test (suc n) ≡ true → how_many test (suc n) ≡ suc (how_many test n)
 unfolding how_many
 many_at test n t = cond-true (test (suc n)) _ _ t
+
+pub many_same : (f g : ℕ → Bool) (n : ℕ) → ((k : ℕ) → 1 ≤ k → k ≤ n → f k ≡ g k) → how_many f n ≡ how_many g n
+unfolding how_many
+many_same f g zero e = refl
+many_same f g (suc n) e =
+    let i = many_same f g n (λ k l u. e k l (omega arith)) in
+    let s = e (suc n) (omega arith) (omega arith) in
+    rw (i, s) refl
